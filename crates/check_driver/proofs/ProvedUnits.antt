@@ -132,7 +132,7 @@ proved_unit_is_safe told words held bytes signature met old new told_is asks und
     record {
       unit = unit;
       is_unit = spelled.is_unit;
-      spelled = sym spelled.spelled;
+      spelled = spelled.spelled;
       named = tells.0;
       safe = proved_unit_safe unit spelled.is_unit tells.1;
     }

@@ -8,19 +8,19 @@ use Rattle.cil_model.specs.declared.unit.Unit.{Unit as MethodUnit}
 use Rattle.command_words.specs.Words.{file_indexes, word_at, words_at}
 use Rattle.command_words.specs.declared.command.Command.{Command}
 use Rattle.command_words.specs.declared.command.Command.TheVariants as commands
-use Rattle.unit_form.specs.Spelling.{unit_bytes}
+use Rattle.unit_form.specs.Spelling.{IsSpelledBy}
 use Rattle.method_unit.specs.UnitFile.{unit_of}
 use Rattle.method_unit.specs.Units.{IsUnit}
 use Rattle.check_driver.specs.Expected.{file_at}
 use Rattle.check_driver.specs.Met.{AreContents, AreUnder, IsContent, bytes_read}
 use Rattle.check_driver.specs.ProvedUnit.{AreSpelled, IfUnit, IsHeldSpelled}
 
-pub are_spelled : (bytes : List ℕ) (unit : MethodUnit) → length bytes < READ_LIMIT → unit_bytes unit ≡ bytes → unit ≡ unit_of bytes
+pub are_spelled : (bytes : List ℕ) (unit : MethodUnit) → length bytes < READ_LIMIT → IsSpelledBy unit bytes → unit ≡ unit_of bytes
     → IsUnit unit → AreSpelled bytes
 are_spelled bytes unit whole spelled same is_unit = record {
   whole = whole;
   is_unit = subst IsUnit same is_unit;
-  spelled = ap unit_bytes (sym same) ∙ spelled;
+  spelled = subst (λ (u : MethodUnit). IsSpelledBy u bytes) same spelled;
 }
 
 -- ---- what is held

@@ -2,7 +2,7 @@
 use Rattle.std.specs.Prelude.{◌≡◌, ◌<◌, ℕ, List, ◌++◌, length, Option, Some, codes, slice_get}
 use Rattle.cc_base.specs.Files.{Held, READ_LIMIT}
 use Rattle.cil_model.specs.declared.unit.Unit.{Unit as MethodUnit}
-use Rattle.unit_form.specs.Spelling.{unit_bytes}
+use Rattle.unit_form.specs.Spelling.{IsSpelledBy}
 use Rattle.method_unit.specs.UnitFile.{unit_of}
 use Rattle.method_unit.specs.Units.{IsUnit}
 use Rattle.answer_lines.specs.Signatures.{unit_signature}
@@ -25,21 +25,21 @@ pub record PrintsProvedUnit (old new : Option (List ℕ)) (signature : List ℕ)
   pub appended : WasAppended old new text
   pub first : slice_get (lines_of text) 0 ≡ Some (codes "unit " ++ signature ++ codes ": proved")
 
--- The bytes are the spelling of a unit of this signature, and the unit is safe.
+-- The bytes are a spelling of a unit of this signature, in one of the forms of files, and the unit is safe.
 pub record SpellSafeUnit (bytes signature : List ℕ) : Type 0 where
   pub unit : MethodUnit
   pub is_unit : IsUnit unit
-  pub spelled : bytes ≡ unit_bytes unit
+  pub spelled : IsSpelledBy unit bytes
   pub named : signature ≡ unit_signature unit
   pub safe : IsSafe unit
 
 -- ---- what the code knows of a unit's file once it has begun the report
 
--- The bytes, which were not cut, are the spelling of the unit that is read of them.
+-- The bytes, which were not cut, are a spelling of the unit that is read of them.
 pub record AreSpelled (bytes : List ℕ) : Type 0 where
   pub whole : length bytes < READ_LIMIT
   pub is_unit : IsUnit (unit_of bytes)
-  pub spelled : unit_bytes (unit_of bytes) ≡ bytes
+  pub spelled : IsSpelledBy (unit_of bytes) bytes
 
 -- What is held under the name is the spelling of a unit, where that is told.
 abbrev pub IsHeldSpelled : Option Held → List ℕ → Type 0

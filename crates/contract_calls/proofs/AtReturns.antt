@@ -188,7 +188,7 @@ result_fits unit p result is machine = λ v at. elim (result_tells p.heap unit.r
 ]
 
 -- What an Ensures reads.
-reads_at_return : (unit : MethodUnit) (state : State) (p : Point) (result : Option Value) → Returns unit p result
+pub reads_at_return : (unit : MethodUnit) (state : State) (p : Point) (result : Option Value) → Returns unit p result
     → HoldsAt state (returning result p)
     → Reads (at_return unit.result state) unit.args unit.result (variables_of (returning result p).frame) p.heap
     (reading_at_return p.frame p.heap result)
@@ -263,7 +263,7 @@ ensured_ready unit clause (Some known) ready is =
     (assumed_keeps_forms env true clause.tree known unit.args unit.result (ready.readable known refl)
     (is_test unit.args unit.result clause is))
 
-none_result : (place : Place) → put_result place None ≡ None
+pub none_result : (place : Place) → put_result place None ≡ None
 unfolding put_result
 none_result place = none_put (result_places place)
 

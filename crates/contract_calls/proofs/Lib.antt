@@ -1,3 +1,4 @@
+pub mod OwnInts
 pub mod MethodClauses
 pub mod PassedArguments
 pub mod Assuming
@@ -9,3 +10,4 @@ pub mod BehindForms
 pub mod Public
 pub mod Numbered
 pub mod WholeCalls
+pub mod WholeReturns

@@ -1,7 +1,8 @@
--- What a call and a return owe, and what is known behind a call. The arguments of a call lie on top of the stack, as
+-- What a call and a return owe, and what is known behind them. The arguments of a call lie on top of the stack, as
 -- they were put into their places.
 use Rattle.std.specs.Prelude.{ℕ, zero, suc, ◌+◌, ◌-◌, Bool, true, List, [], ◌∷◌, ◌++◌, length, take, drop, slice_get, Option, Some, None}
 use Rattle.std.specs.Option.{option_map}
+use Rattle.cil_model.specs.Calls.{clauses_in_force}
 use Rattle.cil_model.specs.Clauses.{clauses_of}
 use Rattle.cil_model.specs.declared.clause.Clause.{Clause}
 use Rattle.cil_model.specs.declared.clause.ClauseKind.TheVariants as kinds
@@ -13,7 +14,7 @@ use Rattle.clause_trees.specs.ClauseStates.{assumed, shown}
 use Rattle.clause_trees.specs.declared.reader.TreeEnv.{TreeEnv}
 use Rattle.state_facts.specs.StateFacts.{StateFacts, State}
 use Rattle.state_facts.specs.States.{forget}
-use Rattle.contract_calls.specs.Arguments.{first_of, put_args}
+use Rattle.contract_calls.specs.Arguments.{first_of, put_args, put_result}
 
 -- Each clause is true.
 abbrev pub assumed_each : TreeEnv → List Clause → State → State
@@ -98,3 +99,14 @@ ensures_shown unit clause state = shown (at_return unit.result state) true claus
 -- It is assumed.
 abbrev pub ensures_assumed : MethodUnit → Clause → State → State
 ensures_assumed unit clause state = assumed (at_return unit.result state) true clause.tree state
+
+-- All Ensures of the unit are assumed.
+unfoldable pub ensured : MethodUnit → State → State
+ensured unit state =
+    assumed_each (at_return unit.result state) (clauses_of kinds.Ensures (clauses_in_force unit)) state
+
+-- ---- a whole return
+
+-- What is returned is put into the place of the result, and then each Ensures of the unit is true.
+unfoldable pub given_back : MethodUnit → State → State
+given_back unit state = ensured unit (put_result unit.result state)

@@ -1,6 +1,6 @@
 -- What it means: of points of runs.
 use Rattle.std.specs.Prelude.{◌≡◌, true, List, [], ◌∷◌, ◌++◌, length, reverse, drop, Option, Some, None}
-use Rattle.cil_model.specs.Calls.{FreeReturn, args_of, behind_call, pushed, result_of}
+use Rattle.cil_model.specs.Calls.{FreeReturn, args_of, behind_call, ensures_fault, pushed, result_of}
 use Rattle.cil_model.specs.Clauses.{Reading, clause_holds, false_requires}
 use Rattle.cil_model.specs.Values.{FitPlaces, Heap}
 use Rattle.cil_model.specs.declared.clause.Clause.{Clause}
@@ -122,6 +122,19 @@ KeepsEnsured unit clause before after =
     (p : Point) (result : Option Value) → Returns unit p result
     → clause_holds (reading_at_return p.frame p.heap result) clause ≡ true → HoldsAt before (returning result p)
     → HoldsAt after (returning result p)
+
+-- Where all Ensures are true.
+abbrev pub KeepsAllEnsured : MethodUnit → State → State → Type 0
+KeepsAllEnsured unit before after =
+    (p : Point) (result : Option Value) → Returns unit p result → ensures_fault unit p.frame p.heap result ≡ None
+    → HoldsAt before (returning result p) → HoldsAt after (returning result p)
+
+-- Where a return finds no Ensures false, the new state holds of it, with the result on the stack as it was put into its
+-- place.
+abbrev pub KeepsReturn : MethodUnit → State → State → Type 0
+KeepsReturn unit before after =
+    (p : Point) (result : Option Value) → Returns unit p result → ensures_fault unit p.frame p.heap result ≡ None
+    → HoldsAt before p → HoldsAt after (returning result p)
 
 -- Each Ensures is shown, where those before it are assumed.
 abbrev pub AreEnsured : MethodUnit → List Clause → State → Type 0

@@ -4,7 +4,7 @@
 //! parameters (`put_args`). The callee's Requires are judged in turn, each with what the earlier ones say, and all of
 //! them hold from then on. What comes back is known by the callee's Ensures alone (`after_call`). At a return the
 //! result is put into its place (`put_result`), and the unit's own Ensures are judged in turn too: each with what the
-//! earlier ones say.
+//! earlier ones say. All of them hold from then on (`give_back`).
 //!
 //! specs/CallStates has what becomes of states, specs/CallForms what has to be there, and specs/Meaning what all of it
 //! says of points of runs.
@@ -18,4 +18,4 @@ mod returns;
 pub use arguments::{put_args, put_result};
 pub use calls::{after_call, assume_all_requires, assume_requires, call, requires_shown};
 pub use clauses::clause_numbered;
-pub use returns::{assume_ensures, ensures_shown};
+pub use returns::{assume_all_ensures, assume_ensures, ensures_shown, give_back};

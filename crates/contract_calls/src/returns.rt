@@ -1,14 +1,16 @@
-//! What a return owes.
+//! What a return owes and gives.
 
 ghost use Rattle.std.specs.Prelude.{◌≡◌, IfOk, true};
+ghost use Rattle.cil_model.specs.WellFormed.{IsWellFormed};
 ghost use Rattle.contract_calls.specs.CallForms.{CanReturn, HasFew, IsClauseOf};
 ghost use Rattle.contract_calls.specs.CallStates as rule;
-ghost use Rattle.contract_calls.specs.Meaning.{IsEnsuredAt, KeepsEnsured};
+ghost use Rattle.contract_calls.specs.Meaning.{IsEnsuredAt, KeepsAllEnsured, KeepsEnsured, KeepsReturn};
 
-use crate::arguments::first_of;
+use crate::arguments::{first_of, put_result};
 use crate::calls::result_at;
+use crate::clauses::assume_each;
 use abs_state::AbsState;
-use cil_model::{Clause, Unit};
+use cil_model::{Clause, ClauseKind, Unit};
 use clause_trees::{TreeEnv, assume_tree, tree_shown};
 use domain_api::NoMemory;
 use std::alloc::Global;
@@ -63,4 +65,62 @@ pub fn assume_ensures(
     ensures ready { IfOk result (λ new. CanReturn unit.now new) }
 {
     assume_tree(alloc, state, &clause.tree, &at_return(state, unit))
+}
+
+/// The state in which all Ensures of the unit are assumed to be true.
+#[tactic(auto, unfolding(crate::specs::CallStates::ensured), using(crate::proofs::WholeReturns::return_assumes))]
+fn ensured(alloc: Global, state: AbsState, unit: &Unit) -> Result<AbsState, NoMemory>
+    requires formed { IsWellFormed unit.now }
+    requires ready { CanReturn unit.now state }
+    ensures { IfOk result (λ new. new ≡ rule.ensured unit.now state) }
+{
+    let env = at_return(&state, unit);
+    assume_each(
+        alloc,
+        state,
+        ClauseKind::Ensures,
+        unit.clauses_in_force(),
+        &env,
+    )
+}
+
+/// The state in which all Ensures of the unit are assumed to be true at a return, one after the other.
+///
+/// Cost: that of `assume_tree` for each.
+pub fn assume_all_ensures(
+    alloc: Global,
+    state: AbsState,
+    unit: &Unit,
+) -> Result<AbsState, NoMemory>
+    requires formed { IsWellFormed unit.now }
+    requires ready { CanReturn unit.now state }
+    ensures value { IfOk result (λ new. new ≡ rule.ensured unit.now state) }
+    ensures keeps { IfOk result (λ new. KeepsAllEnsured unit.now state new) }
+{
+    ensured(alloc, state, unit)
+}
+
+/// What a return makes of a state.
+#[tactic(auto, unfolding(crate::specs::CallStates::given_back))]
+fn whole_return(alloc: Global, mut state: AbsState, unit: &Unit) -> Result<AbsState, NoMemory>
+    requires formed { IsWellFormed unit.now }
+    requires ready { CanReturn unit.now state }
+    ensures { IfOk result (λ new. new ≡ rule.given_back unit.now state) }
+{
+    put_result(&mut state, unit.result)?;
+    assume_all_ensures(alloc, state, unit)
+}
+
+/// The state at a return once its Ensures were found true, from the one before it: the result is put into its place,
+/// where it stays on top, and then each Ensures of the unit is assumed.
+///
+/// Cost: that of `assume_tree` for each Ensures.
+pub fn give_back(alloc: Global, state: AbsState, unit: &Unit) -> Result<AbsState, NoMemory>
+    requires formed { IsWellFormed unit.now }
+    requires ready { CanReturn unit.now state }
+    ensures value { IfOk result (λ new. new ≡ rule.given_back unit.now state) }
+    // Whatever it gives that its Ensures allow.
+    ensures keeps { IfOk result (λ new. KeepsReturn unit.now state new) }
+{
+    whole_return(alloc, state, unit)
 }

@@ -1,4 +1,4 @@
--- A unit's spelling passes the tests of a unit file, and the unit is read from it again.
+-- A unit's spelling, in each form, passes the tests of a unit file, and the unit is read from it again.
 use Rattle.std.proofs.Common.{◌≡◌, ℕ, ◌≤◌, List, [], ◌∷◌, length, map, filter_map, None, option_map, slice_get, refl, sym, ap, ap₂, subst, ◌∙◌, arith}
 use Rattle.std.proofs.lemmas.Option.{slice_get_past}
 use Rattle.cc_base.specs.Tests.{first_of}
@@ -20,9 +20,9 @@ use Rattle.il_decoder.specs.Faults.{fault_at as il_fault_at}
 use Rattle.stack_typer.proofs.Settling.{kinds_no_fault}
 use Rattle.stack_typer.specs.FaultPlaces.{type_fault_at}
 use Rattle.unit_form.proofs.OffsetsCounted.{offsets_counted}
-use Rattle.unit_form.proofs.UnitAgain.{UnitAgain, unit_again as fields_again}
+use Rattle.unit_form.proofs.UnitAgain.{UnitAgain, unit_again as fields_again, written_spells}
 use Rattle.unit_form.specs.FieldsRead.{HasRead}
-use Rattle.unit_form.specs.Spelling.{HasFields, unit_bytes}
+use Rattle.unit_form.specs.Spelling.{HasFields, IsSpelledBy, unit_bytes}
 use Rattle.unit_form.specs.UnitFields.{FieldsOfUnit, unit_fields}
 use Rattle.method_unit.specs.UnitFile.{block_test, clause_test, clause_told, code_tests_of, count_test, decoding_test, field_fault, field_test, first_unit_fault, form_at, instr_tests, number_tests, order_tests, shape_told, start_test, typing_test, unit_of, unit_told}
 use Rattle.method_unit.specs.Units.{IsUnit}
@@ -133,24 +133,37 @@ module _ (unit : MethodUnit) (is : IsUnit unit) where
 
   -- ---- the file
 
-  again : UnitAgain (unit_bytes unit) unit
-  again = fields_again (unit_bytes unit) unit (unit_has_fields unit is.well_formed) refl
+  module _ (bytes : List ℕ) (spelled : IsSpelledBy unit bytes) where
+    again : UnitAgain bytes unit
+    again = fields_again bytes unit (unit_has_fields unit is.well_formed) spelled
 
-  fields_pass : field_test (unit_bytes unit) ≡ None
-  unfolding field_test
-  fields_pass = ap (option_map field_fault) again.passed
+    fields_pass : field_test bytes ≡ None
+    unfolding field_test
+    fields_pass = ap (option_map field_fault) again.passed
 
-  file_passes : first_unit_fault (unit_bytes unit) ≡ None
-  unfolding first_unit_fault
-  file_passes = first_of-none (field_test (unit_bytes unit)) _ fields_pass ∙ code_passes (unit_fields (unit_bytes unit)).value again.has (offsets_counted (unit_bytes unit))
+    file_passes : first_unit_fault bytes ≡ None
+    unfolding first_unit_fault
+    file_passes = first_of-none (field_test bytes) _ fields_pass ∙ code_passes (unit_fields bytes).value again.has (offsets_counted bytes)
 
-  file_tells : unit_of (unit_bytes unit) ≡ unit
-  unfolding unit_of
-  file_tells = same_unit (unit_fields (unit_bytes unit)).value again.has
+    file_tells : unit_of bytes ≡ unit
+    unfolding unit_of
+    file_tells = same_unit (unit_fields bytes).value again.has
+
+pub spelled_again : (bytes : List ℕ) (unit : MethodUnit) → IsUnit unit → IsSpelledBy unit bytes → (first_unit_fault bytes ≡ None) × (unit_of bytes ≡ unit)
+spelled_again bytes unit is spelled = (file_passes unit is bytes spelled, file_tells unit is bytes spelled)
+
+-- Bytes spell one unit, in whatever form.
+pub one_spelled : (bytes : List ℕ) (a b : MethodUnit) → IsUnit a → IsUnit b → IsSpelledBy a bytes → IsSpelledBy b bytes → a ≡ b
+one_spelled bytes a b is other spelled same = sym (spelled_again bytes a is spelled).1 ∙ (spelled_again bytes b other same).1
+
+-- ---- what is written
+
+pub unit_spelled : (unit : MethodUnit) → IsUnit unit → IsSpelledBy unit (unit_bytes unit)
+unit_spelled unit is = written_spells unit (unit_has_fields unit is.well_formed)
 
 pub unit_again : (unit : MethodUnit) → IsUnit unit → (first_unit_fault (unit_bytes unit) ≡ None) × (unit_of (unit_bytes unit) ≡ unit)
-unit_again unit is = (file_passes unit is, file_tells unit is)
+unit_again unit is = spelled_again (unit_bytes unit) unit is (unit_spelled unit is)
 
--- Units of one spelling are one.
+-- Units of one key are one.
 pub one_unit : (a b : MethodUnit) → IsUnit a → IsUnit b → unit_bytes a ≡ unit_bytes b → a ≡ b
 one_unit a b is other same = sym (unit_again a is).1 ∙ (ap unit_of same ∙ (unit_again b other).1)

@@ -6,6 +6,7 @@ use Rattle.cc_base.specs.Tests.{first_of}
 use Rattle.cc_base.proofs.TestLemmas.{none_before, none_behind, none_here}
 use Rattle.cil_model.specs.Blocks.{start_of_body}
 use Rattle.cil_model.specs.ClauseTrees.{clauses_in}
+use Rattle.cil_model.specs.Limits.{MAX_BLOCKS, MAX_INSTRUCTIONS}
 use Rattle.cil_model.specs.TreeKinds.{IsNumberClause}
 use Rattle.cil_model.specs.Bodies.{HasBody}
 use Rattle.cil_model.specs.WellFormed.{ClausesWithinLimits, IsWellFormed, told_by_code}
@@ -19,7 +20,7 @@ use Rattle.clause_faults.specs.Faults.{first_clause_fault}
 use Rattle.flow_graph.specs.BlocksOf.{block_starts}
 use Rattle.flow_graph.proofs.GraphFacts.{blocks_counted}
 use Rattle.il_decoder.specs.Decoding.{instructions_of}
-use Rattle.unit_form.specs.Spelling.{unit_bytes}
+use Rattle.unit_form.specs.Spelling.{IsSpelledBy}
 use Rattle.unit_form.specs.UnitFields.{FieldsOfUnit, unit_fields}
 use Rattle.unit_form.proofs.OffsetsCounted.{offsets_counted}
 use Rattle.unit_form.proofs.UnitTaken.{unit_taken as fields_taken}
@@ -41,10 +42,10 @@ ends_before (x ∷ xs) zero none = absurd cc
 ends_before (x ∷ xs) (suc n) none = omega (arith, ends_before xs n none)
 
 pub record InstrsPassed (base : ℕ) (shape : Shape) (offsets : List ℕ) (is : List Instr) : Type 0 where
-  pub few : length is ≤ 4096
+  pub few : length is ≤ MAX_INSTRUCTIONS
   pub numbers : first_of (number_tests base (length shape.callees) is) ≡ None
   pub clauses : first_clause_fault is shape ≡ None
-  pub blocks : length (block_starts is (start_of_body is)) ≤ 256
+  pub blocks : length (block_starts is (start_of_body is)) ≤ MAX_BLOCKS
   pub order : first_of (order_tests is offsets) ≡ None
 
 instrs_passed : (base : ℕ) (shape : Shape) (offsets : List ℕ) (is : List Instr) → first_of (instr_tests base shape offsets is) ≡ None → InstrsPassed base shape offsets is
@@ -60,10 +61,10 @@ instrs_passed base shape offsets is none =
     let behind_clauses = none_behind (clauses ∷ []) (blocks ∷ (order ++ last)) behind_numbers in
     let behind_blocks = none_behind (blocks ∷ []) (order ++ last) behind_clauses in
     record {
-      few = ends_before is 4096 (none_of _ _ (none_here (count_test base is) _ none));
+      few = ends_before is MAX_INSTRUCTIONS (none_of _ _ (none_here (count_test base is) _ none));
       numbers = none_before numbers _ behind_count;
       clauses = none_of _ _ (none_here clauses _ behind_numbers);
-      blocks = ends_before _ 256 (none_of _ _ (none_here blocks _ behind_clauses));
+      blocks = ends_before _ MAX_BLOCKS (none_of _ _ (none_here blocks _ behind_clauses));
       order = none_before order _ behind_blocks;
     }
 
@@ -151,5 +152,5 @@ module _ (bytes : List ℕ) (unit : MethodUnit) (fits : IsBytes bytes) (none : f
         same = same;
         is_unit = is_unit;
         runs = formed_never_stuck unit is_unit.well_formed;
-        spelled = subst (λ (u : MethodUnit). unit_bytes u ≡ bytes) (sym same) taken.spelled;
+        spelled = subst (λ (u : MethodUnit). IsSpelledBy u bytes) (sym same) taken.spelled;
       }

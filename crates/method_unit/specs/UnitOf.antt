@@ -11,7 +11,7 @@ use Rattle.cil_model.specs.declared.instruction.Instr.{Instr}
 use Rattle.cil_model.specs.declared.unit.Unit.{Unit as MethodUnit}
 use Rattle.contract_extract.specs.Extracting.{AreContracts}
 use Rattle.il_decoder.specs.Decoding.{instructions_of}
-use Rattle.unit_form.specs.Spelling.{unit_bytes}
+use Rattle.unit_form.specs.Spelling.{IsSpelledBy}
 use Rattle.unit_form.specs.UnitFields.{FieldsOfUnit, unit_fields}
 use Rattle.method_unit.specs.UnitFile.{shape_told, unit_of}
 use Rattle.method_unit.specs.Units.{HasKinds, IsUnit}
@@ -45,5 +45,5 @@ IsUnitIn bytes unit = IsUnitOf (unit_fields bytes).value (instructions_of (unit_
 pub record IsRead (bytes : List ℕ) (unit : MethodUnit) : Type 0 where
   pub same : unit ≡ unit_of bytes
   pub is_unit : IsUnit unit
-  pub spelled : unit_bytes unit ≡ bytes
+  pub spelled : IsSpelledBy unit bytes
   pub runs : NeverStuck unit

@@ -12,7 +12,7 @@ ghost use Rattle.cil_model.specs.WellFormed.{ClausesWithinLimits};
 ghost use Rattle.cil_model.specs.declared.unit.Unit.{Unit as MethodUnit};
 ghost use Rattle.contract_extract.specs.Extracting.{AreContracts};
 ghost use Rattle.unit_form.specs.FieldsRead.{fields_told, IsCodeWithin};
-ghost use Rattle.unit_form.specs.Spelling.{unit_bytes};
+ghost use Rattle.unit_form.specs.Spelling.{IsSpelledBy, unit_bytes};
 ghost use Rattle.unit_form.specs.UnitFields.{unit_fields};
 ghost use Rattle.il_decoder.specs.Decoding.{instructions_of};
 ghost use Rattle.method_unit.specs.UnitFile.{code_tests_of, field_test, first_unit_fault, instr_tests, unit_of};
@@ -88,7 +88,7 @@ fn unit_at(alloc: Global, fields: UnitFields<'_>) -> Result<TypedUnit, UnitRefus
         result: fields.result,
         args: List::from_vec(fields.args),
         locals: List::from_vec(fields.locals),
-        max_stack: u16::from(fields.max_stack),
+        max_stack: fields.max_stack,
         callees: List::from_vec(fields.callees),
     };
     let offsets = fields.callee_offsets;
@@ -127,19 +127,21 @@ fn read_known(alloc: Global, bytes: &[u8]) -> Result<TypedUnit, UnitRefusal>
     read_first(alloc, bytes)
 }
 
-/// The unit that the bytes of a file spell, with the kinds of its code, or the first fault of the file.
+/// The unit that the bytes of a file spell in one of the two forms, with the kinds of its code, or the first fault of
+/// the file.
 ///
 /// Cost: linear in the length of the file, but for the passes that find kinds, the sorting of the blocks and the walk
 /// over the contract block, all over 4,096 instructions at most.
 #[tactic(auto)]
 pub fn read_unit(alloc: Global, bytes: &[u8]) -> Result<TypedUnit, UnitRefusal>
     requires short { length bytes.now ≤ 2147483647 }
-    // What is read is the one unit that the bytes spell.
+    // What is read is the one unit that the bytes spell, in one of the forms.
     ensures unit { IfOk result IsUnit }
-    ensures spelled { IfOk result (λ unit. unit_bytes unit ≡ bytes.now) }
+    ensures spelled { IfOk result (λ unit. IsSpelledBy unit bytes.now) }
     // A unit that is spelled so is read, unless memory runs out.
-    ensures only { (unit : MethodUnit) → IsUnit unit → unit_bytes unit ≡ bytes.now → GivesOnly result (λ found. found ≡ unit) }
-    // The spelling of a unit is a list of bytes, and that of no other one.
+    ensures only { (unit : MethodUnit) → IsUnit unit → IsSpelledBy unit bytes.now → GivesOnly result (λ found. found ≡ unit) }
+    // What `unit_bytes` writes spells the unit, so it is read back. It is a list of bytes, and that of no other unit.
+    ensures written { (unit : MethodUnit) → IsUnit unit → IsSpelledBy unit (unit_bytes unit) }
     ensures bytes { (unit : MethodUnit) → IsUnit unit → IsBytes (unit_bytes unit) }
     ensures one { (a b : MethodUnit) → IsUnit a → IsUnit b → unit_bytes a ≡ unit_bytes b → a ≡ b }
     // It is read where no test of the list fails; a fault is that of the first test that does.

@@ -20,12 +20,12 @@ use Rattle.contract_calls.specs.Arguments.{put_args}
 use Rattle.contract_calls.specs.CallForms.{CanCall, IsClauseOf}
 use Rattle.contract_calls.proofs.AtCalls.{put_ready}
 use Rattle.contract_calls.proofs.AtReturns.{result_ready}
-use Rattle.contract_calls.proofs.MethodClauses.{callee_clauses, clauses_are}
+use Rattle.contract_calls.proofs.MethodClauses.{callee_clauses}
+use Rattle.contract_calls.proofs.WholeReturns.{own_clauses}
 use Rattle.obligation_prover.specs.ClausesTested.{CanTest, IsClauseTested, IsContract, clauses_tested, contract_of, kind_tested, put_tested, tested_at_call, tested_by}
 use Rattle.state_facts.specs.StateFacts.{State}
 use Rattle.obligation_prover.specs.declared.tested.Tested.{Tested}
 use Rattle.obligation_prover.specs.declared.tested.Tested.TheVariants as tests
-use Rattle.obligation_prover.proofs.OwnInts.{own_ints}
 
 -- ---- callees
 
@@ -94,7 +94,7 @@ no_contract unit = record { few = omega arith; clauses = tt }
 own_contract : (unit : MethodUnit) → IsWellFormed unit → IsContract unit tests.Own
 own_contract unit formed = record {
   few = formed.limits.clauses.count;
-  clauses = clauses_are unit.args unit.result unit.clauses formed.numbers (own_ints unit formed);
+  clauses = own_clauses unit formed;
 }
 
 call_contract : (unit : MethodUnit) (call : Option UnitCall) → IsWellFormed unit

@@ -6,7 +6,6 @@ pub mod RuledOut
 pub mod Complete
 pub mod InTurn
 pub mod Reading
-pub mod OwnInts
 pub mod Contracts
 pub mod Plain
 pub mod NoneFalse

@@ -23,7 +23,7 @@ use Rattle.state_obligations.specs.declared.condition.Condition.{Condition}
 use Rattle.state_obligations.specs.declared.condition.Condition.TheVariants as conditions
 use Rattle.state_obligations.specs.declared.condition.Operation.{Operation}
 use Rattle.state_obligations.specs.declared.condition.Operation.TheVariants as operations
-use Rattle.obligation_prover.specs.Operations.{array_of, assertion_of, binary_of, call_operation, condition_depth, conditions_at, element_of, from_top, length_of, operation_of}
+use Rattle.obligation_prover.specs.Operations.{array_of, assertion_of, binary_of, call_operation, condition_depth, conditions_after, conditions_at, element_of, from_top, length_of, operation_of}
 use Rattle.obligation_prover.proofs.PointValues.{FitsVar}
 
 -- ---- operands
@@ -159,3 +159,11 @@ pub conditions_fit : (op : Op) (known : StateFacts) (number : ℕ → ℤ) → A
 conditions_fit op known number fit =
     all_of (OperandsAre (FitsVar number)) (λ c. IsOfInt32 c number) (operation_of op known) (λ o is. operation_fits number o is)
     (operands_are (FitsVar number) known fit op)
+
+-- So for those that are assumed once it went on.
+pub assumed_there : (op : Op) (known : StateFacts) → HasForm known → AreThere known (conditions_after op known)
+assumed_there op known form = conditions_there op known form
+
+pub assumed_fit : (op : Op) (known : StateFacts) (number : ℕ → ℤ) → AllByRecursion (FitsVar number) known.variables
+    → AreOfInt32 (conditions_after op known) number
+assumed_fit op known number fit = conditions_fit op known number fit

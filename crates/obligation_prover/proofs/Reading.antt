@@ -65,18 +65,10 @@ pub both_read : {X : Type 0} (f : Option Var → Option Var → X) (made : X) (v
 both_read f made v w x y is first second = is ∙ ap (λ (a : Option Var). f a w) first ∙ ap (λ (b : Option Var). f x b) second
 
 -- Other operations end in no fault.
-pub other_read : (op : Op) (state : State) → (op ≡ ops.Length → ⊥) → ((place : Place) → op ≡ ops.LoadElem place → ⊥)
-    → ((place : Place) → op ≡ ops.StoreElem place → ⊥) → ((number : ℕ) → op ≡ ops.NewArray number → ⊥) → ((operator : BinOp) → op ≡ ops.Bin operator → ⊥)
-    → ((number : ℕ) → op ≡ ops.Call number → ⊥) → None ≡ option_and_then (operation_of op) state
-unfolding operation_of
-other_read op None length load store array binary call = refl
-other_read ops.Length (Some known) length load store array binary call = absurd (length refl)
-other_read (ops.LoadElem place) (Some known) length load store array binary call = absurd (load place refl)
-other_read (ops.StoreElem place) (Some known) length load store array binary call = absurd (store place refl)
-other_read (ops.NewArray number) (Some known) length load store array binary call = absurd (array number refl)
-other_read (ops.Bin operator) (Some known) length load store array binary call = absurd (binary operator refl)
-other_read (ops.Call number) (Some known) length load store array binary call = absurd (call number refl)
-other_read _ (Some known) length load store array binary call = refl
+pub other_read : (op : Op) (state : State) → ((known : StateFacts) → operation_of op known ≡ None)
+    → None ≡ option_and_then (operation_of op) state
+other_read op None none = refl
+other_read op (Some known) none = sym (none known)
 
 -- ---- conditions
 

@@ -31,10 +31,10 @@ use Rattle.state_obligations.specs.declared.condition.Operation.TheVariants as o
 use Rattle.obligation_prover.specs.Avoiding.{avoid, avoid_all}
 use Rattle.obligation_prover.specs.Entailed.{condition_of, rules_out}
 use Rattle.obligation_prover.specs.Meaning.{AssumesNoFault, RulesOut}
-use Rattle.obligation_prover.specs.Operations.{conditions_at, operation_of}
+use Rattle.obligation_prover.specs.Operations.{conditions_after, conditions_at, operation_of}
 use Rattle.obligation_prover.proofs.Faulting.{faults_where_unmet}
-use Rattle.obligation_prover.proofs.Operands.{conditions_fit, conditions_there}
-use Rattle.obligation_prover.proofs.PointValues.{values_int32, variables_fit}
+use Rattle.obligation_prover.proofs.Operands.{assumed_fit, assumed_there, conditions_fit, conditions_there}
+use Rattle.obligation_prover.proofs.PointValues.{FitsVar, values_int32, variables_fit}
 
 -- ---- the condition of a fault
 
@@ -132,10 +132,16 @@ module _ (unit : MethodUnit) (i : Instr) (p : Point) (known : StateFacts) (form 
   abbrev cs : List Condition
   cs = conditions_at i.op known
 
+  abbrev after : List Condition
+  after = conditions_after i.op known
+
+  variables_here : AllByRecursion (FitsVar at.frame.number) known.variables
+  variables_here =
+      variables_fit at.frame.number at.frame.array known.variables (variables_of p.frame) at.frame.holds.variables
+      (values_int32 p at.machine)
+
   pub fit_here : AreOfInt32 cs at.frame.number
-  fit_here =
-      conditions_fit i.op known at.frame.number
-      (variables_fit at.frame.number at.frame.array known.variables (variables_of p.frame) at.frame.holds.variables (values_int32 p at.machine))
+  fit_here = conditions_fit i.op known at.frame.number variables_here
 
   pub faults_here : (effect : Effect) → HasEffect (effects unit i p.frame p.heap) effect
       → EffectsFaultWhereUnmet cs p.heap at.frame.number at.frame.array (effects unit i p.frame p.heap)
@@ -154,6 +160,11 @@ module _ (unit : MethodUnit) (i : Instr) (p : Point) (known : StateFacts) (form 
       → AreMet cs p.heap at.frame.number at.frame.array
   met_here effect has other = ⊎_elim (λ met. met.0)
       (λ ends. absurd (other ends.fault (alone_is ends.fault effect (subst (λ (es : List Effect). HasEffect es effect) ends.alone has)))) (faults_here effect has)
+
+  -- So is what is assumed after it.
+  met_after : (effect : Effect) → HasEffect (effects unit i p.frame p.heap) effect
+      → ((kind : FaultKind) → effect ≡ Faults kind → ⊥) → AreMet after p.heap at.frame.number at.frame.array
+  met_after effect has other = met_here effect has other
 
   pub not_here : (kind : FaultKind) → rules_out unit i.op kind (Some known) ≡ true → HasEffect (effects unit i p.frame p.heap) (Faults kind) → ⊥
   not_here kind so has = by (condition_of unit i.op kind known) refl so
@@ -179,11 +190,11 @@ module _ (unit : MethodUnit) (i : Instr) (p : Point) (known : StateFacts) (form 
           at.machine.heap at.frame.holds (found_is (λ d. IsOfInt32 d at.frame.number) kind cs c fit_here is)
           (found_is (λ d. IsMet d p.heap at.frame.number at.frame.array) kind cs c met is))
 
-  all_avoided_here : AreMet cs p.heap at.frame.number at.frame.array → HoldsAt (avoid_all i.op (Some known)) p
+  all_avoided_here : AreMet after p.heap at.frame.number at.frame.array → HoldsAt (avoid_all i.op (Some known)) p
   all_avoided_here met =
       at_state (avoid_all i.op (Some known))
-      (met_are_kept cs known form (conditions_there i.op known form) (variables_of p.frame) p.heap at.frame.number at.frame.array at.machine.heap at.frame.holds
-      fit_here met)
+      (met_are_kept after known form (assumed_there i.op known form) (variables_of p.frame) p.heap at.frame.number
+      at.frame.array at.machine.heap at.frame.holds (assumed_fit i.op known at.frame.number variables_here) met)
 
 -- ---- states
 
@@ -202,4 +213,4 @@ pub all_avoided : (unit : MethodUnit) (op : Op) (state : State) → ForSome stat
 all_avoided unit op None form = λ i p effect same at has other. at
 all_avoided unit op (Some known) form = λ i p effect same at has other.
     subst (λ (o : Op). HoldsAt (avoid_all o (Some known)) p) same
-    (all_avoided_here unit i p known (form known refl) at (met_here unit i p known (form known refl) at effect has other))
+    (all_avoided_here unit i p known (form known refl) at (met_after unit i p known (form known refl) at effect has other))

@@ -8,7 +8,7 @@ use Rattle.state_facts.specs.StateFacts.{StateFacts, State}
 use Rattle.state_obligations.specs.Assumed.{assumed_by}
 use Rattle.state_obligations.specs.Judged.{judged}
 use Rattle.obligation_prover.specs.Entailed.{condition_of}
-use Rattle.obligation_prover.specs.Operations.{conditions_at}
+use Rattle.obligation_prover.specs.Operations.{conditions_after}
 
 -- An instruction of the unit with this operation did not end in the fault.
 abbrev pub avoiding : MethodUnit → Op → FaultKind → StateFacts → State
@@ -22,7 +22,7 @@ abbrev pub avoid_each : MethodUnit → Op → List FaultKind → State → State
 avoid_each unit op [] state = state
 avoid_each unit op (kind ∷ kinds) state = avoid_each unit op kinds (avoid unit op kind state)
 
--- It did not end in a fault: each of its conditions is met.
+-- It did not end in a fault: each condition that is assumed after it is met.
 abbrev pub avoid_all : Op → State → State
 avoid_all op None = None
-avoid_all op (Some known) = (judged (conditions_at op known) (Some known)).state
+avoid_all op (Some known) = (judged (conditions_after op known) (Some known)).state

@@ -32,9 +32,11 @@ use Rattle.obligation_prover.specs.declared.tested.Tested.TheVariants as tests
 
 -- The clause of which this is the fault, where one is tested that has this number.
 abbrev pub clause_of_fault : MethodUnit → Tested → FaultKind → Option Clause
+clause_of_fault unit tests.Nothing kind = None
 clause_of_fault unit (tests.Callee number) (faults.Requires n) = numbered (clauses_tested unit (tests.Callee number)) n
+clause_of_fault unit (tests.Callee number) kind = None
 clause_of_fault unit tests.Own (faults.Ensures n) = numbered (clauses_tested unit tests.Own) n
-clause_of_fault unit test kind = None
+clause_of_fault unit tests.Own kind = None
 
 -- It is shown where what is passed or returned is put into its places. The state is that before the instruction, and it
 -- assumes the clauses before this one.

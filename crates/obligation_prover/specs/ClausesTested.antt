@@ -72,7 +72,8 @@ contract_of unit tests.Own = clauses_in_force unit
 
 abbrev pub kind_tested : Tested → ClauseKind
 kind_tested tests.Own = kinds.Ensures
-kind_tested _ = kinds.Requires
+kind_tested (tests.Callee number) = kinds.Requires
+kind_tested tests.Nothing = kinds.Requires
 
 -- The clauses that are tested, in order.
 abbrev pub clauses_tested : MethodUnit → Tested → List Clause
@@ -83,11 +84,13 @@ clauses_tested unit test = clauses_of (kind_tested test) (contract_of unit test)
 -- The fault of the clause of this number, counted from 1.
 abbrev pub fault_of_clause : Tested → ℕ → FaultKind
 fault_of_clause tests.Own n = faults.Ensures n
-fault_of_clause _ n = faults.Requires n
+fault_of_clause (tests.Callee number) n = faults.Requires n
+fault_of_clause tests.Nothing n = faults.Requires n
 
 abbrev pub callee_tested : Tested → Option ℕ
 callee_tested (tests.Callee number) = Some number
-callee_tested _ = None
+callee_tested tests.Own = None
+callee_tested tests.Nothing = None
 
 -- That the clause of this number is true.
 abbrev pub clause_obligation : Instr → Tested → ℕ → Obligation

@@ -10,7 +10,7 @@ use Rattle.state_obligations.specs.Entailed.{entailed_by}
 use Rattle.state_obligations.specs.declared.condition.Condition.{Condition}
 use Rattle.obligation_prover.specs.Operations.{conditions_at}
 
--- The condition of an operation that is of a fault.
+-- The condition of an operation that is of a fault, among those that it is judged by.
 abbrev pub condition_of : MethodUnit → Op → FaultKind → StateFacts → Option Condition
 condition_of unit op kind known = with_fault kind (conditions_at op known)
 

@@ -85,4 +85,12 @@ IsAmong (fault ∷ others) kind = (kind ≡ fault) ⊎ IsAmong others kind
 abbrev pub is_of_clause : FaultKind → Bool
 is_of_clause (faults.Requires number) = true
 is_of_clause (faults.Ensures number) = true
-is_of_clause _ = false
+is_of_clause faults.Assert = false
+is_of_clause faults.NullUse = false
+is_of_clause faults.Lower = false
+is_of_clause faults.Upper = false
+is_of_clause faults.DivZero = false
+is_of_clause faults.DivOverflow = false
+is_of_clause faults.Overflow = false
+is_of_clause faults.Shift = false
+is_of_clause faults.ArraySize = false

@@ -23,23 +23,39 @@ from_top above known = slice_get (reverse known.variables) above
 
 abbrev pub length_of : Option Var → Option Operation
 length_of (Some (vars.Reference r)) = Some (operations.Length r)
-length_of _ = None
+length_of (Some (vars.Number e)) = None
+length_of (Some vars.Text) = None
+length_of None = None
 
 abbrev pub element_of : Option Var → Option Var → Option Operation
 element_of (Some (vars.Reference r)) (Some (vars.Number i)) = Some (operations.Element r i)
-element_of _ _ = None
+element_of (Some (vars.Reference r)) (Some (vars.Reference q)) = None
+element_of (Some (vars.Reference r)) (Some vars.Text) = None
+element_of (Some (vars.Reference r)) None = None
+element_of (Some (vars.Number e)) index = None
+element_of (Some vars.Text) index = None
+element_of None index = None
 
 abbrev pub array_of : Option Var → Option Operation
 array_of (Some (vars.Number n)) = Some (operations.NewArray n)
-array_of _ = None
+array_of (Some (vars.Reference r)) = None
+array_of (Some vars.Text) = None
+array_of None = None
 
 abbrev pub binary_of : BinOp → Option Var → Option Var → Option Operation
 binary_of op (Some (vars.Number a)) (Some (vars.Number b)) = Some (operations.Binary op a b)
-binary_of op _ _ = None
+binary_of op (Some (vars.Number a)) (Some (vars.Reference q)) = None
+binary_of op (Some (vars.Number a)) (Some vars.Text) = None
+binary_of op (Some (vars.Number a)) None = None
+binary_of op (Some (vars.Reference r)) second = None
+binary_of op (Some vars.Text) second = None
+binary_of op None second = None
 
 abbrev pub assertion_of : Option Var → Option Operation
 assertion_of (Some (vars.Number e)) = Some (operations.Assert e)
-assertion_of _ = None
+assertion_of (Some (vars.Reference r)) = None
+assertion_of (Some vars.Text) = None
+assertion_of None = None
 
 -- The condition of an Assert or an Assume lies on top of the stack, or below its message: how many values lie on it.
 abbrev pub condition_depth : Bool → ℕ
@@ -85,6 +101,16 @@ operation_of ops.Not known = None
 operation_of ops.ConvI4 known = None
 operation_of (ops.Text token) known = None
 
--- Its conditions, in the order in which the machine tests them.
+-- ---- what is judged, and what is assumed
+
+-- The conditions that an instruction is judged by, in the order in which the machine tests them: its own obligations.
 abbrev pub conditions_at : Op → StateFacts → List Condition
 conditions_at op known = option_map_or conditions_of (operation_of op known) []
+
+-- What is assumed to have ended in no fault once an instruction went on. Of each that is what it is judged by.
+abbrev pub assumed_operation : Op → StateFacts → Option Operation
+assumed_operation op known = operation_of op known
+
+-- The conditions that a state after the instruction assumes.
+abbrev pub conditions_after : Op → StateFacts → List Condition
+conditions_after op known = option_map_or conditions_of (assumed_operation op known) []

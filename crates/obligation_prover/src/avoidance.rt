@@ -6,7 +6,7 @@ ghost use Rattle.state_facts.specs.Forms.{HasForm};
 ghost use Rattle.obligation_prover.specs.Avoiding as rule;
 ghost use Rattle.obligation_prover.specs.Meaning.{AssumesNoFault};
 
-use crate::operations::{condition_of, operation_of};
+use crate::operations::{assumed_operation, condition_of};
 use abs_state::AbsState;
 use cil_model::{FaultKind, Op, Unit};
 use domain_api::NoMemory;
@@ -34,12 +34,12 @@ pub fn avoid(state: &mut AbsState, unit: &Unit, op: &Op, kind: FaultKind) -> Res
     assume_met(state, unit, op, kind)
 }
 
-/// Assumes that each condition of an operation is met.
+/// Assumes that each condition is met that a state after an operation assumes.
 fn assume_all_met(state: &mut AbsState, op: &Op) -> Result<(), NoMemory>
     ensures value { OnOk result (state.new ≡ rule.avoid_all op.now state.old) }
     ensures form { ForSome state.old HasForm }
 {
-    match operation_of(op, state) {
+    match assumed_operation(op, state) {
         Some(operation) => {
             state.judge(operation)?;
             Ok(())

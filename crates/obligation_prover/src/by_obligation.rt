@@ -36,7 +36,18 @@ fn instr_at(instrs: &[Instr], at: u32) -> Option<&Instr>
 fn is_of_clause(kind: FaultKind) -> bool
     ensures { result ≡ is_of_clause kind }
 {
-    matches!(kind, FaultKind::Requires(_) | FaultKind::Ensures(_))
+    match kind {
+        FaultKind::Requires(_) | FaultKind::Ensures(_) => true,
+        FaultKind::Assert
+        | FaultKind::NullUse
+        | FaultKind::Lower
+        | FaultKind::Upper
+        | FaultKind::DivZero
+        | FaultKind::DivOverflow
+        | FaultKind::Overflow
+        | FaultKind::Shift
+        | FaultKind::ArraySize => false,
+    }
 }
 
 /// The clause of which this is the fault, where one is tested that has this number.

@@ -17,7 +17,7 @@ fn length_of(array: Option<Var>) -> Option<Operation>
 {
     match array {
         Some(Var::Reference(r)) => Some(Operation::Length(r)),
-        _ => None,
+        Some(Var::Number(_) | Var::Text) | None => None,
     }
 }
 
@@ -27,7 +27,8 @@ fn element_of(array: Option<Var>, index: Option<Var>) -> Option<Operation>
 {
     match (array, index) {
         (Some(Var::Reference(r)), Some(Var::Number(i))) => Some(Operation::Element(r, i)),
-        _ => None,
+        (Some(Var::Reference(_)), Some(Var::Reference(_) | Var::Text) | None)
+        | (Some(Var::Number(_) | Var::Text) | None, _) => None,
     }
 }
 
@@ -37,7 +38,7 @@ fn array_of(length: Option<Var>) -> Option<Operation>
 {
     match length {
         Some(Var::Number(n)) => Some(Operation::NewArray(n)),
-        _ => None,
+        Some(Var::Reference(_) | Var::Text) | None => None,
     }
 }
 
@@ -47,7 +48,8 @@ fn binary_of(op: BinOp, first: Option<Var>, second: Option<Var>) -> Option<Opera
 {
     match (first, second) {
         (Some(Var::Number(a)), Some(Var::Number(b))) => Some(Operation::Binary(op, a, b)),
-        _ => None,
+        (Some(Var::Number(_)), Some(Var::Reference(_) | Var::Text) | None)
+        | (Some(Var::Reference(_) | Var::Text) | None, _) => None,
     }
 }
 
@@ -57,7 +59,7 @@ fn assertion_of(condition: Option<Var>) -> Option<Operation>
 {
     match condition {
         Some(Var::Number(e)) => Some(Operation::Assert(e)),
-        _ => None,
+        Some(Var::Reference(_) | Var::Text) | None => None,
     }
 }
 
@@ -81,6 +83,11 @@ fn call_operation(call: Option<UnitCall>, state: &AbsState) -> Option<Operation>
 }
 
 /// What an instruction with this operation does that may end in a fault, by its rule.
+#[tactic(
+    auto,
+    unfolding(crate::specs::Operations::operation_of),
+    using(crate::proofs::Reading::other_read)
+)]
 fn found_operation(op: &Op, state: &AbsState) -> Option<Operation>
     ensures { result ≡ option_and_then (rule.operation_of op.now) state.now }
 {
@@ -91,8 +98,22 @@ fn found_operation(op: &Op, state: &AbsState) -> Option<Operation>
         Op::NewArray(_) => array_of(state.from_top(0)),
         Op::Bin(op) => binary_of(*op, state.from_top(1), state.from_top(0)),
         Op::Call(number) => call_operation(unit_call(*number), state),
-        // The definition names each instruction.
-        _ => None,
+        Op::Nop
+        | Op::LoadArg(_)
+        | Op::StoreArg(_)
+        | Op::LoadLocal(_)
+        | Op::StoreLocal(_)
+        | Op::Null
+        | Op::Const(_)
+        | Op::Dup
+        | Op::Pop
+        | Op::Return
+        | Op::Branch(_, _)
+        | Op::Switch(_)
+        | Op::Neg
+        | Op::Not
+        | Op::ConvI4
+        | Op::Text(_) => None,
     }
 }
 
@@ -109,7 +130,16 @@ pub(crate) fn operation_of(op: &Op, state: &AbsState) -> Option<Operation>
     found_operation(op, state)
 }
 
-/// The condition of an instruction of the unit that is of this fault.
+/// What is assumed to have ended in no fault once an instruction with this operation went on: what it is judged by.
+pub(crate) fn assumed_operation(op: &Op, state: &AbsState) -> Option<Operation>
+    ensures value { result ≡ option_and_then (rule.assumed_operation op.now) state.now }
+    ensures there { IfSome result (λ operation. ForSome state.now (λ known. AreThere known (conditions_of operation))) }
+    ensures form { ForSome state.now HasForm }
+{
+    operation_of(op, state)
+}
+
+/// The condition of an instruction of the unit that is of this fault, among those that it is judged by.
 pub(crate) fn condition_of(
     _unit: &Unit,
     op: &Op,

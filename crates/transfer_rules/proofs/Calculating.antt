@@ -51,20 +51,15 @@ pub computed_is : (op : BinOp) (v w : Var) (a b : Expr) (state : State) → is_s
     → states.arith op a b state ≡ option_and_then (calculated op (comparison_of op) v w) state
 computed_is op v w a b state none first second = rw (first, second) (by_arithmetic (comparison_of op) op a b state none)
 
-not_numbers : (op : BinOp) (v w : Var) (known : StateFacts) → ((a b : Expr) → v ≡ vars.Number a → w ≡ vars.Number b → ⊥) → None ≡ calculated op None v w known
-not_numbers op (vars.Number a) (vars.Number b) known not = absurd (not a b refl refl)
-not_numbers op (vars.Number a) (vars.Reference q) known not = refl
-not_numbers op (vars.Number a) vars.Text known not = refl
-not_numbers op (vars.Reference r) w known not = refl
-not_numbers op vars.Text w known not = refl
-
-pub refused_is : (op : BinOp) (v w : Var) (state : State) → is_some (comparison_of op) ≡ false → ((a b : Expr) → v ≡ vars.Number a → w ≡ vars.Number b → ⊥)
+-- Operands that an operator on numbers does not take.
+pub refused_is : (op : BinOp) (v w : Var) (state : State) → is_some (comparison_of op) ≡ false
+    → ((known : StateFacts) → calculated op None v w known ≡ None)
     → None ≡ option_and_then (calculated op (comparison_of op) v w) state
-refused_is op v w None none not = refl
-refused_is op v w (Some known) none not = by (comparison_of op) none
+refused_is op v w None none refused = refl
+refused_is op v w (Some known) none refused = by (comparison_of op) none
   where
     by : (o : Option CmpOp) → is_some o ≡ false → None ≡ calculated op o v w known
-    by None none = not_numbers op v w known not
+    by None none = sym (refused known)
     by (Some cmp) none = cc
 
 on_operated : (op : BinOp) (state : State) → option_and_then (on_two (calculated op (comparison_of op))) state ≡ option_and_then (operated op) state

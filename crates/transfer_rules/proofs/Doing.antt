@@ -8,13 +8,15 @@ use Rattle.cil_model.specs.declared.instruction.Op.TheVariants as ops
 use Rattle.cil_model.specs.declared.instruction.Test.{Test}
 use Rattle.cil_model.specs.declared.place.Place.{Place}
 use Rattle.cil_model.specs.declared.unit.Unit.{Unit as MethodUnit}
+use Rattle.contract_calls.specs.CallStates.{given_back}
+use Rattle.contract_calls.proofs.WholeReturns.{none_given}
 use Rattle.frame_names.specs.declared.var.Var.{Var}
 use Rattle.frame_names.specs.declared.var.Var.TheVariants as vars
 use Rattle.number_spans.specs.Constants.{constant}
 use Rattle.state_facts.specs.Moves.{popped, pushed}
 use Rattle.state_facts.specs.StateFacts.{StateFacts, State}
 use Rattle.state_facts.specs.States as states
-use Rattle.transfer_rules.specs.Acts.{act, acted, arg_place, behind_call, behind_test, complemented, duplicated, loaded, local_place, negated, operated, returned, stored, type_of, with_item_of, with_item_put, with_length, with_new}
+use Rattle.transfer_rules.specs.Acts.{act, acted, arg_place, behind_call, behind_test, complemented, duplicated, loaded, local_place, negated, operated, stored, type_of, with_item_of, with_item_put, with_length, with_new}
 use Rattle.transfer_rules.specs.Operands.{on_one, on_three, on_two}
 
 -- ---- a state that becomes another
@@ -85,9 +87,10 @@ pub called : (unit : MethodUnit) (number : ℕ) (state : State) → option_and_t
 unfolding acted
 called unit number state = done unit (ops.Call number) (behind_call unit (unit_call number)) state (λ known. refl)
 
-pub put_back : (unit : MethodUnit) (state : State) → option_and_then (returned unit.result) state ≡ act unit ops.Return state
+pub put_back : (unit : MethodUnit) (state : State) → given_back unit state ≡ act unit ops.Return state
 unfolding acted
-put_back unit state = done unit ops.Return (returned unit.result) state (λ known. refl)
+put_back unit None = none_given unit
+put_back unit (Some known) = refl
 
 pub branched : (unit : MethodUnit) (test : Test) (target : ℕ) (state : State) → option_and_then (behind_test test) state ≡ act unit (ops.Branch test target) state
 unfolding acted

@@ -9,10 +9,11 @@ use Rattle.cil_model.specs.declared.unit.Unit.{Unit as MethodUnit}
 use Rattle.cil_model.specs.declared.unit_numbers.UnitCall.{UnitCall}
 use Rattle.cil_model.specs.declared.unit_numbers.UnitCall.TheVariants as calls
 use Rattle.obligation_prover.specs.Avoiding.{avoid_all}
+use Rattle.obligation_prover.specs.Operations.{operation_of}
 use Rattle.state_facts.specs.Forms.{HasForm}
 use Rattle.state_facts.specs.StateFacts.{State}
 use Rattle.transfer_rules.specs.Choices.{chosen}
-use Rattle.transfer_rules.specs.Owed.{CanCallBy, CanDo, IsReady}
+use Rattle.transfer_rules.specs.Owed.{CanCallBy, CanDo, CanGiveBack, IsReady}
 use Rattle.transfer_rules.specs.Post.{along, post}
 use Rattle.transfer_rules.specs.Steps.{HoldsAlong, HoldsBehind}
 use Rattle.transfer_rules.specs.Laws.PostLaws.{along_holds, call_avoided, post_holds}
@@ -30,7 +31,7 @@ ready_along op way old between new form first is =
     subst (λ (s : State). ForSome s (IsReady op)) (sym is)
     (chosen_ready op way between (ready_behind op old between form first))
 
--- ---- calls
+-- ---- calls and returns
 
 named_still : (unit : MethodUnit) (number : ℕ) (old : State) (call : Option UnitCall) → unit_call number ≡ call
     → CanCallBy unit call old → CanCallBy unit call (avoid_all (ops.Call number) old)
@@ -38,19 +39,28 @@ named_still unit number old (Some (calls.Callee n)) is can =
     subst (CanCallBy unit (Some (calls.Callee n))) (sym (call_avoided n number old is)) can
 named_still unit number old _ is can = tt
 
+-- A return ends in no fault that is assumed away before its rule.
+return_avoided : (state : State) → avoid_all ops.Return state ≡ state
+unfolding operation_of
+return_avoided None = refl
+return_avoided (Some known) = refl
+
 avoided_can : (unit : MethodUnit) (op : Op) (old : State) → CanDo unit op old → CanDo unit op (avoid_all op old)
 avoided_can unit (ops.Call number) old can = named_still unit number old (unit_call number) refl can
+avoided_can unit ops.Return old can = subst (CanGiveBack unit) (sym (return_avoided old)) can
 avoided_can unit _ old can = tt
 
--- A call has one way.
+-- A call has one way, and a return has none.
 chosen_can : (unit : MethodUnit) (op : Op) (way : ℕ) (old : State) → CanDo unit op old
     → CanDo unit op (option_and_then (chosen op way) old)
 unfolding chosen
 chosen_can unit (ops.Call number) way None can = can
 chosen_can unit (ops.Call number) way (Some known) can = can
+chosen_can unit ops.Return way None can = can
+chosen_can unit ops.Return way (Some known) can = can
 chosen_can unit _ way old can = tt
 
--- What a call takes is there, where no fault came, and still so along its way.
+-- What a call takes is there, where no fault came, and still so along its way. So is what a return reads.
 pub can_behind : (unit : MethodUnit) (op : Op) (old new : State) → CanDo unit op old → new ≡ avoid_all op old
     → CanDo unit op new
 can_behind unit op old new can is = subst (CanDo unit op) (sym is) (avoided_can unit op old can)

@@ -1,15 +1,13 @@
 -- Moves of the code, of a state that may be reached or not.
-use Rattle.std.proofs.Common.{◌≡◌, ◌≢◌, ◌≤◌, ◌<◌, ℕ, ◌-◌, Bool, true, false, nat_lt, Option, Some, None, length, refl, sym, ap, subst, ◌∙◌, arith, slice_get}
+use Rattle.std.proofs.Common.{◌≡◌, ◌≤◌, ◌<◌, ℕ, Bool, true, false, nat_lt, Option, Some, None, length, refl, sym, ap, subst, ◌∙◌, arith, slice_get}
 use Rattle.std.specs.Prelude.{if◌then◌else◌, reverse}
 use Rattle.std.specs.Option.{ForSome, option_and_then}
 use Rattle.std.proofs.lemmas.Option.{slice_get_past}
 use Rattle.cil_model.specs.declared.place.Place.{Place}
-use Rattle.cil_model.specs.declared.place.Place.TheVariants as places
 use Rattle.frame_names.specs.declared.var.Var.{Var}
-use Rattle.obligation_prover.specs.Operations.{from_top}
 use Rattle.state_facts.specs.StateFacts.{StateFacts, State, variables_in}
 use Rattle.state_facts.specs.States as states
-use Rattle.transfer_rules.specs.Acts.{duplicated, given, loaded, put_into, returned, stored}
+use Rattle.transfer_rules.specs.Acts.{duplicated, given, loaded, put_into, stored}
 use Rattle.transfer_rules.specs.Operands.{Took, on_one, with_one}
 
 -- ---- variables
@@ -68,33 +66,4 @@ store_is i place v state after took = sym (took (put_into i place)) ∙ on_store
 pub store_none : (i : ℕ) (place : Place) (state after : State) → Took None state after → None ≡ option_and_then (stored i place) state
 store_none i place state after took = sym (took (put_into i place)) ∙ on_stored i place state
 
--- ---- results
-
-pub void_is : (place : Place) (state : State) → place ≡ places.Void → state ≡ option_and_then (returned place) state
-unfolding returned
-void_is place None is = refl
-void_is place (Some known) is = rw is refl
-
-some_result : (place : Place) (known : StateFacts) → place ≢ places.Void
-    → with_one (put_into (length known.variables - 1) place) (from_top 0 known) known ≡ returned place known
-unfolding returned
-some_result places.Void known other = absurd (other refl)
-some_result places.Bool known other = refl
-some_result places.Int known other = refl
-some_result places.Bools known other = refl
-some_result places.Ints known other = refl
-
-pub result_is : (place : Place) (last : ℕ) (v : Var) (state : State) → place ≢ places.Void → last ≡ length (variables_in state) - 1
-    → Some v ≡ slice_get (reverse (variables_in state)) 0 → option_and_then (put_into last place v) state ≡ option_and_then (returned place) state
-result_is place last v None other at is = refl
-result_is place last v (Some known) other at is =
-    ap (λ (n : ℕ). put_into n place v known) at ∙ ap (λ (o : Option Var). with_one (put_into (length known.variables - 1) place) o known) is
-    ∙ some_result place known other
-
-pub result_none : (place : Place) (state : State) → place ≢ places.Void → None ≡ slice_get (reverse (variables_in state)) 0
-    → None ≡ option_and_then (returned place) state
-result_none place None other none = refl
-result_none place (Some known) other none =
-    ap (λ (o : Option Var). with_one (put_into (length known.variables - 1) place) o known) none ∙ some_result place known other
-
-pub ruleset moving = (load_is, load_past, double_is, double_none, put_is, put_past, within_there, store_is, store_none, void_is, result_is, result_none)
+pub ruleset moving = (load_is, load_past, double_is, double_none, put_is, put_past, within_there, store_is, store_none)

@@ -10,7 +10,7 @@ use Rattle.cil_model.specs.declared.unit_numbers.UnitCall.TheVariants as calls
 use Rattle.domain_api.specs.declared.expr.Expr.{Expr}
 use Rattle.frame_names.specs.declared.var.Var.{Var}
 use Rattle.frame_names.specs.declared.var.Var.TheVariants as vars
-use Rattle.state_facts.specs.StateFacts.{State}
+use Rattle.state_facts.specs.StateFacts.{StateFacts, State}
 use Rattle.state_facts.specs.States as states
 use Rattle.state_obligations.specs.Assumed.{assume}
 use Rattle.state_obligations.specs.declared.condition.Condition.TheVariants as conditions
@@ -77,15 +77,11 @@ module _ (unit : MethodUnit) where
       → CanCallBy unit (Some call) state → CanCallIt (slice_get unit.callees number) state
   callee_ready call number state is ready = subst (λ (c : UnitCall). CanCallBy unit (Some c) state) is ready
 
-  pub other_passed : (call : UnitCall) (state : State) → ((message : Bool) → call ≡ calls.Assert message → ⊥)
-      → ((message : Bool) → call ≡ calls.Assume message → ⊥) → ((number : ℕ) → call ≡ calls.Callee number → ⊥)
+  pub other_passed : (call : UnitCall) (state : State)
+      → ((known : StateFacts) → behind_call unit (Some call) known ≡ Some known)
       → state ≡ option_and_then (behind_call unit (Some call)) state
-  unfolding behind_call
-  other_passed call None no_assert no_assume no_callee = refl
-  other_passed (calls.Assert message) (Some known) no_assert no_assume no_callee = absurd (no_assert message refl)
-  other_passed (calls.Assume message) (Some known) no_assert no_assume no_callee = absurd (no_assume message refl)
-  other_passed (calls.Callee number) (Some known) no_assert no_assume no_callee = absurd (no_callee number refl)
-  other_passed _ (Some known) no_assert no_assume no_callee = refl
+  other_passed call None same = refl
+  other_passed call (Some known) same = sym (same known)
 
   pub none_passed : (call : Option UnitCall) (state : State) → call ≡ None
       → state ≡ option_and_then (behind_call unit call) state

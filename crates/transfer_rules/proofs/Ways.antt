@@ -124,12 +124,9 @@ unfolding chosen
 switch_chosen op targets way None is = refl
 switch_chosen op targets way (Some known) is = rw is refl
 
-pub other_chosen : (op : Op) (way : ℕ) (state : State) → ((test : Test) (target : ℕ) → op ≡ ops.Branch test target → ⊥)
-    → ((targets : List ℕ) → op ≡ ops.Switch targets → ⊥) → state ≡ option_and_then (chosen op way) state
-unfolding chosen
-other_chosen op way None no_branch no_switch = refl
-other_chosen (ops.Branch test target) way (Some known) no_branch no_switch = absurd (no_branch test target refl)
-other_chosen (ops.Switch targets) way (Some known) no_branch no_switch = absurd (no_switch targets refl)
-other_chosen _ way (Some known) no_branch no_switch = refl
+pub other_chosen : (op : Op) (way : ℕ) (state : State) → ((known : StateFacts) → chosen op way known ≡ Some known)
+    → state ≡ option_and_then (chosen op way) state
+other_chosen op way None same = refl
+other_chosen op way (Some known) same = sym (same known)
 
 pub ruleset ways = (truth_is, truth_none, compared_is, first_lacking, second_lacking, always_chosen, true_chosen, false_chosen, compared_chosen, case_is, end_is, no_case, branch_chosen, switch_chosen, other_chosen)

@@ -1,7 +1,7 @@
 -- What an operation does to what is known of a point, where it ends in no fault (ECMA-335 III.3 and III.4). Where an
 -- operand is missing, or has not the form that the operation takes, nothing is reached: the machine does not go on
 -- there.
-use Rattle.std.specs.Prelude.{ℕ, ◌+◌, ◌-◌, ℤ, pos, negsuc, nat_lt, List, length, get_or, slice_get, Option, Some, None, if◌then◌else◌}
+use Rattle.std.specs.Prelude.{ℕ, ◌+◌, ℤ, pos, negsuc, nat_lt, List, length, get_or, slice_get, Option, Some, None, if◌then◌else◌}
 use Rattle.std.specs.Option.{option_and_then}
 use Rattle.cil_model.specs.Comparisons.{comparison_of}
 use Rattle.cil_model.specs.UnitCalls.{array_place, unit_call}
@@ -18,7 +18,7 @@ use Rattle.cil_model.specs.declared.unit.CalleeInfo.{CalleeInfo}
 use Rattle.cil_model.specs.declared.unit.Unit.{Unit as MethodUnit}
 use Rattle.cil_model.specs.declared.unit_numbers.UnitCall.{UnitCall}
 use Rattle.cil_model.specs.declared.unit_numbers.UnitCall.TheVariants as calls
-use Rattle.contract_calls.specs.CallStates.{called}
+use Rattle.contract_calls.specs.CallStates.{called, given_back}
 use Rattle.domain_api.specs.declared.expr.Expr.{Expr}
 use Rattle.frame_names.specs.declared.var.Var.{Var}
 use Rattle.frame_names.specs.declared.var.Var.TheVariants as vars
@@ -62,18 +62,16 @@ stored i place known = on_one (put_into i place) known
 unfoldable pub duplicated : StateFacts → State
 duplicated known = with_one given (from_top 0 known) known
 
--- A result is put into its place, where it stands on top.
-unfoldable pub returned : Place → StateFacts → State
-returned places.Void known = Some known
-returned place known = with_one (put_into (length known.variables - 1) place) (from_top 0 known) known
-
 -- ---- operators
 
 -- Two values are compared. Other operators take two numbers.
 abbrev pub calculated : BinOp → Option CmpOp → Var → Var → StateFacts → State
 calculated op (Some comparison) v w known = with_comparison op v w known
 calculated op None (vars.Number a) (vars.Number b) known = with_result op a b known
-calculated op None v w known = None
+calculated op None (vars.Number a) (vars.Reference q) known = None
+calculated op None (vars.Number a) vars.Text known = None
+calculated op None (vars.Reference r) w known = None
+calculated op None vars.Text w known = None
 
 unfoldable pub operated : BinOp → StateFacts → State
 operated op known = on_two (calculated op (comparison_of op)) known
@@ -81,7 +79,8 @@ operated op known = on_two (calculated op (comparison_of op)) known
 -- A number is taken from a constant.
 abbrev pub taken_from : ℤ → Var → StateFacts → State
 taken_from n (vars.Number e) known = with_result operators.Sub (constant n) e known
-taken_from n v known = None
+taken_from n (vars.Reference r) known = None
+taken_from n vars.Text known = None
 
 -- neg is 0 - e, and not is -1 - e.
 unfoldable pub negated : StateFacts → State
@@ -94,19 +93,30 @@ complemented known = on_one (taken_from (negsuc 0)) known
 
 abbrev pub with_new : Option Place → Var → StateFacts → State
 with_new (Some place) (vars.Number n) known = Some (with_array place n known)
-with_new place v known = None
+with_new (Some place) (vars.Reference r) known = None
+with_new (Some place) vars.Text known = None
+with_new None v known = None
 
 abbrev pub with_length : Var → StateFacts → State
 with_length (vars.Reference r) known = given (vars.Number (length_at known r)) known
-with_length v known = None
+with_length (vars.Number e) known = None
+with_length vars.Text known = None
 
 abbrev pub with_item_of : Var → Var → StateFacts → State
 with_item_of (vars.Reference r) (vars.Number i) known = with_item r i known
-with_item_of v w known = None
+with_item_of (vars.Reference r) (vars.Reference q) known = None
+with_item_of (vars.Reference r) vars.Text known = None
+with_item_of (vars.Number e) w known = None
+with_item_of vars.Text w known = None
 
 abbrev pub with_item_put : Var → Var → Var → StateFacts → State
 with_item_put (vars.Reference r) (vars.Number i) (vars.Number value) known = with_stored r i value known
-with_item_put v w value known = None
+with_item_put (vars.Reference r) (vars.Number i) (vars.Reference q) known = None
+with_item_put (vars.Reference r) (vars.Number i) vars.Text known = None
+with_item_put (vars.Reference r) (vars.Reference q) value known = None
+with_item_put (vars.Reference r) vars.Text value known = None
+with_item_put (vars.Number e) w value known = None
+with_item_put vars.Text w value known = None
 
 -- The same of a number that is there.
 abbrev pub with_number_put : Expr → Var → Var → StateFacts → State
@@ -120,7 +130,8 @@ left v known = Some known
 -- The condition is another number than 0.
 abbrev pub with_condition : Var → StateFacts → State
 with_condition (vars.Number e) known = assumed_by (conditions.Assert e) known
-with_condition v known = None
+with_condition (vars.Reference r) known = None
+with_condition vars.Text known = None
 
 -- Behind a call of a callee its arguments were put, its Requires are true, and it came back as its Ensures allow.
 -- Nothing is reached where there is none.
@@ -128,18 +139,25 @@ abbrev pub after_callee : Option CalleeInfo → StateFacts → State
 after_callee (Some callee) known = called callee (Some known)
 after_callee None known = None
 
--- Behind an Assume its condition is not 0. Behind an Assert that is assumed with its fault.
+-- Behind an Assume its condition is not 0. Behind an Assert that is assumed with its fault. The other calls of contracts
+-- are no part of a body.
 unfoldable pub behind_call : MethodUnit → Option UnitCall → StateFacts → State
 behind_call unit (Some (calls.Assert message)) known = on_condition message left known
 behind_call unit (Some (calls.Assume message)) known = on_condition message with_condition known
 behind_call unit (Some (calls.Callee number)) known = after_callee (slice_get unit.callees number) known
-behind_call unit call known = Some known
+behind_call unit (Some (calls.Requires message)) known = Some known
+behind_call unit (Some (calls.Ensures message)) known = Some known
+behind_call unit (Some calls.EndContractBlock) known = Some known
+behind_call unit (Some (calls.Result place)) known = Some known
+behind_call unit (Some (calls.OldValue place)) known = Some known
+behind_call unit None known = Some known
 
 -- A branch takes what it tests.
 unfoldable pub behind_test : Test → StateFacts → State
 behind_test tests.Always known = Some known
 behind_test (tests.Cmp op) known = Some (popped (popped known))
-behind_test test known = Some (popped known)
+behind_test tests.True known = Some (popped known)
+behind_test tests.False known = Some (popped known)
 
 -- ---- the rules
 
@@ -154,7 +172,7 @@ acted unit (ops.Text token) known = given vars.Text known
 acted unit ops.Dup known = duplicated known
 acted unit ops.Pop known = Some (popped known)
 acted unit (ops.Call number) known = behind_call unit (unit_call number) known
-acted unit ops.Return known = returned unit.result known
+acted unit ops.Return known = given_back unit (Some known)
 acted unit (ops.Branch test target) known = behind_test test known
 acted unit (ops.Switch targets) known = Some (popped known)
 acted unit (ops.Bin op) known = operated op known
@@ -164,7 +182,8 @@ acted unit (ops.NewArray number) known = on_one (with_new (array_place number)) 
 acted unit ops.Length known = on_one with_length known
 acted unit (ops.LoadElem place) known = on_two with_item_of known
 acted unit (ops.StoreElem place) known = on_three with_item_put known
-acted unit op known = Some known
+acted unit ops.Nop known = Some known
+acted unit ops.ConvI4 known = Some known
 
 abbrev pub act : MethodUnit → Op → State → State
 act unit op state = option_and_then (acted unit op) state

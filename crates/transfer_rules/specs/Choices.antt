@@ -42,7 +42,8 @@ abbrev pub with_case : ℕ → ℕ → Var → StateFacts → State
 with_case count way (vars.Number e) known =
     if nat_lt way count then assumed comparisons.Eq (vars.Number e) (vars.Number (constant (pos way))) true known
     else assumed comparisons.LtUn (vars.Number e) (vars.Number (constant (pos count))) false known
-with_case count way v known = None
+with_case count way (vars.Reference r) known = None
+with_case count way vars.Text known = None
 
 unfoldable pub switched : ℕ → ℕ → StateFacts → State
 switched count way known = with_one (with_case count way) (from_top 0 known) known
@@ -50,4 +51,23 @@ switched count way known = with_one (with_case count way) (from_top 0 known) kno
 unfoldable pub chosen : Op → ℕ → StateFacts → State
 chosen (ops.Branch test target) way known = tested test (way == 0) known
 chosen (ops.Switch targets) way known = switched (length targets) way known
-chosen op way known = Some known
+chosen ops.Nop way known = Some known
+chosen (ops.LoadArg n) way known = Some known
+chosen (ops.StoreArg n) way known = Some known
+chosen (ops.LoadLocal n) way known = Some known
+chosen (ops.StoreLocal n) way known = Some known
+chosen ops.Null way known = Some known
+chosen (ops.Const n) way known = Some known
+chosen ops.Dup way known = Some known
+chosen ops.Pop way known = Some known
+chosen (ops.Call number) way known = Some known
+chosen ops.Return way known = Some known
+chosen (ops.Bin operator) way known = Some known
+chosen ops.Neg way known = Some known
+chosen ops.Not way known = Some known
+chosen ops.ConvI4 way known = Some known
+chosen (ops.Text token) way known = Some known
+chosen (ops.NewArray number) way known = Some known
+chosen ops.Length way known = Some known
+chosen (ops.LoadElem place) way known = Some known
+chosen (ops.StoreElem place) way known = Some known

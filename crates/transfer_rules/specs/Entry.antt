@@ -50,7 +50,9 @@ twice known = with_more known.variables known
 abbrev pub zero_in : Place → Var
 zero_in places.Bools = vars.Reference 0
 zero_in places.Ints = vars.Reference 0
-zero_in place = vars.Number (constant (pos 0))
+zero_in places.Bool = vars.Number (constant (pos 0))
+zero_in places.Int = vars.Number (constant (pos 0))
+zero_in places.Void = vars.Number (constant (pos 0))
 
 -- The zeros of these types come on top, in order.
 abbrev pub with_zeros : List Place → State → State

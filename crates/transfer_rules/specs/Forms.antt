@@ -36,7 +36,9 @@ FitKinds known kinds vs = ⊥
 abbrev pub kind_in : Place → Kind
 kind_in places.Bools = kinds.Bools
 kind_in places.Ints = kinds.Ints
-kind_in place = kinds.Int
+kind_in places.Bool = kinds.Int
+kind_in places.Int = kinds.Int
+kind_in places.Void = kinds.Int
 
 -- The kinds of a frame's variables over a stack of these kinds, the top first: the arguments at the entry, the
 -- arguments, the locals, and the stack from the bottom.

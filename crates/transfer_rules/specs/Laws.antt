@@ -11,6 +11,7 @@ pub mod KindForms
 pub mod FittingResults
 pub mod SameKinds
 pub mod CalledForms
+pub mod ReturnForms
 pub mod FormsBehind
 pub mod FormsMerged
 pub mod StackSizes

@@ -8,8 +8,8 @@ ghost use Rattle.transfer_rules.specs.Operands.{on_condition};
 ghost use Rattle.transfer_rules.specs.Owed.{CanCallBy, CanDo, IsReady};
 
 use crate::arrays::{load_item, make_array, push_length, store_item};
-use crate::calls::pass_callee;
-use crate::moves::{duplicate, load, put_result, store};
+use crate::calls::{pass_callee, pass_return};
+use crate::moves::{duplicate, load, store};
 use crate::operands::{refuse, take_condition};
 use crate::operators::{complement, negate, operate};
 use abs_state::{AbsState, Var};
@@ -71,7 +71,7 @@ fn pass_assert(state: &mut AbsState, message: bool) -> Result<(), NoMemory>
 }
 
 /// Takes what a call takes that names this.
-#[tactic(auto, using(crate::proofs::Passing::passing))]
+#[tactic(auto, unfolding(crate::specs::Acts::behind_call), using(crate::proofs::Passing::passing))]
 fn pass_named(
     alloc: Global,
     state: &mut AbsState,
@@ -85,7 +85,11 @@ fn pass_named(
         UnitCall::Assert(message) => pass_assert(state, message),
         UnitCall::Assume(message) => pass_assume(state, message),
         UnitCall::Callee(number) => pass_callee(alloc, state, unit, number),
-        _ => Ok(()),
+        UnitCall::Requires(_)
+        | UnitCall::Ensures(_)
+        | UnitCall::EndContractBlock
+        | UnitCall::Result(_)
+        | UnitCall::OldValue(_) => Ok(()),
     }
 }
 
@@ -150,7 +154,7 @@ pub(crate) fn act(alloc: Global, state: &mut AbsState, unit: &Unit, op: &Op) -> 
         Op::Dup => duplicate(state),
         Op::Pop | Op::Switch(_) => state.pop(),
         Op::Call(number) => pass_call(alloc, state, unit, unit_call(*number)),
-        Op::Return => put_result(state, unit.result),
+        Op::Return => pass_return(alloc, state, unit),
         Op::Branch(test, _) => pass_test(state, *test),
         Op::Bin(operator) => operate(state, *operator),
         Op::Neg => negate(state),

@@ -1,12 +1,12 @@
-//! Calls of methods.
+//! Calls of methods, and returns.
 
 ghost use Rattle.std.specs.Prelude.{◌≡◌, OnOk, slice_get};
 ghost use Rattle.std.specs.Option.{option_and_then, option_copied};
 ghost use Rattle.cil_model.specs.WellFormed.{IsCallee};
 ghost use Rattle.contract_calls.specs.CallForms.{CanCall};
-ghost use Rattle.contract_calls.specs.CallStates.{called};
+ghost use Rattle.contract_calls.specs.CallStates.{called, given_back};
 ghost use Rattle.transfer_rules.specs.Acts as rule;
-ghost use Rattle.transfer_rules.specs.Owed.{CanCallIt};
+ghost use Rattle.transfer_rules.specs.Owed.{CanCallIt, CanGiveBack};
 
 use crate::operands::refuse;
 use abs_state::AbsState;
@@ -51,4 +51,15 @@ pub(crate) fn pass_callee(
             Ok(())
         }
     }
+}
+
+/// Makes a state that of a return: the result is in its place, and each Ensures of the unit is true.
+#[tactic(auto, using(crate::proofs::Calling::returning))]
+pub(crate) fn pass_return(alloc: Global, state: &mut AbsState, unit: &Unit) -> Result<(), NoMemory>
+    requires ready { CanGiveBack unit.now state.old }
+    ensures { OnOk result (state.new ≡ given_back unit.now state.old) }
+{
+    let before = mem::replace(state, AbsState::nothing());
+    *state = contract_calls::give_back(alloc, before, unit)?;
+    Ok(())
 }

@@ -74,7 +74,7 @@ fn choose_case(state: &mut AbsState, count: u32, way: u32) -> Result<(), NoMemor
 }
 
 /// Assumes that the operation takes the way of this number.
-#[tactic(auto, using(crate::proofs::Ways::ways))]
+#[tactic(auto, unfolding(crate::specs::Choices::chosen), using(crate::proofs::Ways::ways))]
 pub(crate) fn choose(state: &mut AbsState, op: &Op, way: u32) -> Result<(), NoMemory>
     requires short { IsShortSwitch op.now }
     ensures { OnOk result (state.new ≡ option_and_then (rule.chosen op.now way) state.old) }
@@ -82,6 +82,25 @@ pub(crate) fn choose(state: &mut AbsState, op: &Op, way: u32) -> Result<(), NoMe
     match op {
         Op::Branch(test, _) => choose_side(state, *test, way == 0),
         Op::Switch(targets) => choose_case(state, targets.as_slice().len() as u32, way),
-        _ => Ok(()),
+        Op::Nop
+        | Op::LoadArg(_)
+        | Op::StoreArg(_)
+        | Op::LoadLocal(_)
+        | Op::StoreLocal(_)
+        | Op::Null
+        | Op::Const(_)
+        | Op::Dup
+        | Op::Pop
+        | Op::Call(_)
+        | Op::Return
+        | Op::Bin(_)
+        | Op::Neg
+        | Op::Not
+        | Op::ConvI4
+        | Op::Text(_)
+        | Op::NewArray(_)
+        | Op::Length
+        | Op::LoadElem(_)
+        | Op::StoreElem(_) => Ok(()),
     }
 }

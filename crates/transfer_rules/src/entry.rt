@@ -79,7 +79,7 @@ fn zero_in(place: Place) -> Var
 {
     match place {
         Place::Bools | Place::Ints => Var::Reference(0),
-        _ => Var::Number(constant(0)),
+        Place::Bool | Place::Int | Place::Void => Var::Number(constant(0)),
     }
 }
 

@@ -20,7 +20,7 @@ fn kind_in(place: Place) -> Kind
     match place {
         Place::Bools => Kind::Bools,
         Place::Ints => Kind::Ints,
-        _ => Kind::Int,
+        Place::Bool | Place::Int | Place::Void => Kind::Int,
     }
 }
 

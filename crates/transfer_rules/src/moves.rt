@@ -9,7 +9,6 @@ use crate::operands::{refuse, take};
 use abs_state::{AbsState, Var};
 use cil_model::Place;
 use domain_api::NoMemory;
-use std::alloc::AllocError;
 
 /// Copies a variable to the top.
 #[tactic(auto, using(crate::proofs::Moving::moving))]
@@ -59,22 +58,4 @@ pub(crate) fn store(state: &mut AbsState, i: u32, place: Place) -> Result<(), No
         return Ok(());
     };
     put_into(state, i, place, top)
-}
-
-/// Puts a result into its place, where it stands on top.
-#[tactic(auto, using(crate::proofs::Moving::moving))]
-pub(crate) fn put_result(state: &mut AbsState, place: Place) -> Result<(), NoMemory>
-    ensures { OnOk result (state.new ≡ option_and_then (rule.returned place) state.old) }
-{
-    if place == Place::Void {
-        return Ok(());
-    }
-    let Some(top) = state.from_top(0) else {
-        refuse(state);
-        return Ok(());
-    };
-    let Ok(last) = u32::try_from(state.var_count().saturating_sub(1)) else {
-        return Err(AllocError);
-    };
-    put_into(state, last, place, top)
 }

@@ -1,5 +1,5 @@
 -- The unit of a method is made of its parts.
-use Rattle.std.proofs.Common.{◌≡◌, ℕ, ◌≤◌, List, map, sym, ap, ap₂, subst, ◌∙◌, arith}
+use Rattle.std.proofs.Common.{◌≡◌, ℕ, List, map, sym, ap, ap₂, subst, ◌∙◌}
 use Rattle.std.specs.Prelude.{Some, None, Result, Ok, Err, option_map}
 use Rattle.std.specs.List.{AllByRecursion}
 use Rattle.asm_image.specs.declared.method_row.MethodRow.{MethodRow}
@@ -8,7 +8,6 @@ use Rattle.cc_base.specs.declared.refusal.Refusal.{Refusal}
 use Rattle.cc_base.specs.declared.refusal.Refusal.TheVariants.{Bad, NoMemory}
 use Rattle.cc_base.specs.declared.token.Token.{Token}
 use Rattle.cc_base.proofs.TestLemmas.{first_of-one}
-use Rattle.cil_model.specs.Limits.{MAX_VARIABLES}
 use Rattle.cil_model.specs.WellFormed.{IsCallee}
 use Rattle.cil_model.specs.declared.instruction.Instr.{Instr}
 use Rattle.cil_model.specs.declared.shape.Shape.{Shape}
@@ -19,10 +18,9 @@ use Rattle.method_unit.specs.Units.{HasKinds}
 use Rattle.stack_typer.specs.FirstTypeFault.{first_type_fault}
 use Rattle.unit_builder.proofs.Made.{unit_made}
 use Rattle.unit_builder.specs.Bodies.{callee_tokens, unit_instrs, unit_name}
-use Rattle.unit_builder.specs.Making.{AreCallees, AreVariablesOf, HasParts, IsMade, IsOwnCode}
+use Rattle.unit_builder.specs.Making.{AreCallees, HasParts, IsMade, IsOwnCode}
 use Rattle.unit_builder.specs.Reasons.{callee_info, kind_tests, reason_tests, unit_shape}
 use Rattle.unit_builder.specs.Rows.{IsRowOf}
-use Rattle.unit_builder.specs.declared.header.Variables.{Variables}
 use Rattle.unit_builder.specs.declared.own_code.OwnCode.{OwnCode}
 use Rattle.unit_builder.specs.declared.reason.Reason.{Reason}
 use Rattle.unit_builder.specs.declared.reason.Reason.TheVariants.{Kinds}
@@ -30,12 +28,6 @@ use Rattle.unit_builder.specs.declared.reason.Reason.TheVariants.{Kinds}
 pub callees_are : (asm : List ℕ) (method : MethodRow) (tokens : List Token) (infos : List CalleeInfo) → tokens ≡ callee_tokens asm method → AreCallees asm tokens infos
     → AreCallees asm (callee_tokens asm method) infos
 callees_are asm method tokens infos same are = subst (λ (ts : List Token). AreCallees asm ts infos) same are
-
-pub stack_small : (asm : List ℕ) (method : MethodRow) (shape : Shape) (variables : Variables) → shape ≡ unit_shape asm method → AreVariablesOf asm method variables → variables.max_stack ≤ MAX_VARIABLES
-    → shape.max_stack ≤ MAX_VARIABLES
-unfolding unit_shape
-stack_small asm method shape variables same told small =
-    let stack : shape.max_stack ≡ variables.max_stack = ap (λ (s : Shape). s.max_stack) same ∙ sym told.max_stack in omega (arith, stack, small)
 
 -- The unit that is made of a shape, of code, of a name and of its bytes.
 abbrev made_of : Shape → OwnCode → List ℕ → List ℕ → MethodUnit

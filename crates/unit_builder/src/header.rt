@@ -1,7 +1,6 @@
 //! The locals and the stack size of a method, from the header of its body.
 
 ghost use Rattle.std.specs.Prelude.{◌≡◌, ◌≤◌, ⊤, ℕ, List, length, option_map, Some, IfOk};
-ghost use Rattle.cil_model.specs.Limits as limits;
 ghost use Rattle.cc_base.specs.Tests.{first_of, Judges};
 ghost use Rattle.il_decoder.specs.Body.{header_at};
 ghost use Rattle.method_code.specs.OfMethods.{args_of};
@@ -49,7 +48,6 @@ fn check_header(
     requires few { args ≤ 256 }
     ensures judged { Judges result (first_of (header_tests assembly.now method.now (Some header)))
         (λ told. (told.locals ≡ locals_told assembly.now header) × (told.max_stack ≡ header.max_stack)) }
-    ensures small { IfOk result (λ told. told.max_stack ≤ limits.MAX_VARIABLES) }
 {
     let locals = locals_named(assembly, header).ok_or(Reason::LocalType)?;
     if locals.len() > 0 && !header.init_locals {
@@ -85,7 +83,6 @@ pub(crate) fn read_variables(
     requires few { args ≤ 256 }
     ensures judged { Judges result (first_of (header_tests assembly.now method.now (header_at assembly.now method.now.rva)))
         (λ told. (told.locals ≡ locals_told assembly.now (header_of assembly.now method.now)) × (told.max_stack ≡ (header_of assembly.now method.now).max_stack)) }
-    ensures small { IfOk result (λ told. told.max_stack ≤ limits.MAX_VARIABLES) }
 {
     if let Some(header) = header_at(assembly.image(), method.rva) {
         return check_header(assembly, method, args, header);

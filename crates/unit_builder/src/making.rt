@@ -1,6 +1,6 @@
 //! The unit of a method, made of its parts.
 
-ghost use Rattle.std.specs.Prelude.{◌≡◌, ◌≤◌, ℕ, List, true, option_map, IfOk};
+ghost use Rattle.std.specs.Prelude.{◌≡◌, ℕ, List, true, option_map, IfOk};
 ghost use Rattle.std.specs.List.{list_all};
 ghost use Rattle.cc_base.specs.Tests.{first_of, JudgesOrNoMemory};
 ghost use Rattle.cil_model.specs.Passes.{KindsOf};
@@ -13,7 +13,6 @@ ghost use Rattle.unit_builder.specs.Rows.{IsRowOf};
 ghost use Rattle.unit_builder.specs.Slots.{AreSlots};
 ghost use Rattle.unit_builder.specs.declared.reason.Reason.TheVariants as reasons;
 ghost use Rattle.signature_blobs.specs.declared.method.SigTypes.TheVariants as types;
-ghost use Rattle.cil_model.specs.Limits.{MAX_VARIABLES};
 
 use crate::callees::callee_infos;
 use crate::header::Variables;
@@ -76,7 +75,6 @@ pub(crate) fn make_unit(
     requires types { method.now.sig.types ≡ types.Known signature.now }
     requires slots { AreSlots assembly.now slots.old }
     requires variables { AreVariablesOf assembly.now method.now variables.now }
-    requires small { variables.now.max_stack ≤ MAX_VARIABLES }
     requires own { IsOwnCode assembly.now method.now own }
     requires short { list_all (has_short_name assembly.now) (callee_tokens assembly.now method.now) ≡ true }
     ensures slots { AreSlots assembly.now slots.new }

@@ -9,15 +9,19 @@ use Rattle.cc_base.specs.LittleEndian.{u16_at, u32_at}
 use Rattle.cc_base.specs.Tests.{first_of, must}
 use Rattle.cc_base.proofs.ByteLemmas.{length-little_bytes}
 use Rattle.cc_base.proofs.TestLemmas.{first_of-append_none, first_of-none, first_of-nil, must_hold}
+use Rattle.cil_model.specs.Limits.{MAX_VARIABLES}
 use Rattle.cil_model.specs.Places.{place_number, place_of_number}
 use Rattle.cil_model.specs.WellFormed.{HoldValues, IsUnitName}
 use Rattle.cil_model.specs.declared.place.Place.{Place}
 use Rattle.cil_model.specs.declared.place.Place.TheVariants as places
-use Rattle.unit_form.specs.Fields.{u8_field, u16_field, u32_field, bytes_field, is_graphic, graphic_tests, name_field, place_numbered, place_field, variable_field, variable_fields, variables_field}
+use Rattle.unit_form.specs.Fields.{count_field, u8_field, u16_field, u32_field, bytes_field, is_graphic, graphic_tests, name_field, place_numbered, place_field, variable_field, variable_fields, variables_field}
+use Rattle.unit_form.specs.Forms.{IsCount, count_bytes}
 use Rattle.unit_form.specs.Parses.{Parse, field, many}
 use Rattle.unit_form.specs.Spelling.{name_bytes, places_bytes}
 use Rattle.unit_form.specs.declared.field_fault.FieldFault.{FieldFault}
-use Rattle.unit_form.proofs.Stands.{behind, lies, byte_read, number_read}
+use Rattle.unit_form.specs.declared.form.UnitForm.{UnitForm}
+use Rattle.unit_form.specs.declared.form.UnitForm.TheVariants.{First, Second}
+use Rattle.unit_form.proofs.Stands.{behind, lies, byte_of, byte_read, number_read}
 use Rattle.unit_form.proofs.Taken.{AllGood, one_each}
 
 -- A value is read back, and this stands after it.
@@ -58,6 +62,11 @@ u32_again bytes at n rest small there =
     let four = length-little_bytes 4 n in
     let inside : at + 4 ≤ length bytes = omega (arith, lies bytes at (little_bytes 4 n) rest there (omega (arith, four)), four) in
     record { passed = field_inside bytes at 4 inside; value = number_read 4 bytes at n rest small there; behind = behind bytes at (at + 4) (little_bytes 4 n) rest there (omega (arith, four)); inside = inside }
+
+pub count_again : (form : UnitForm) (bytes : List ℕ) (at n : ℕ) (rest : List ℕ) → IsCount form n → drop at bytes ≡ count_bytes form n ++ rest → ReadsBack bytes (count_field form bytes at) n rest
+unfolding count_field
+count_again First bytes at n rest small there = u8_again bytes at n rest (there ∙ ap (λ (t : List ℕ). t ++ rest) (byte_of n small))
+count_again Second bytes at n rest small there = u16_again bytes at n rest small there
 
 pub bytes_again : (bytes : List ℕ) (at count : ℕ) (text rest : List ℕ) → count ≡ length text → at ≤ length bytes → drop at bytes ≡ text ++ rest → ReadsBack bytes (bytes_field count bytes at) text rest
 unfolding bytes_field
@@ -169,19 +178,19 @@ good_places : (read variables : List Place) → HoldValues variables → AllGood
 good_places read [] hold = tt
 good_places read (place ∷ others) hold = (hold.0, good_places (read ++ place ∷ []) others hold.1)
 
-pub variables_again : (others : ℕ) (bytes : List ℕ) (at : ℕ) (variables : List Place) (rest : List ℕ) → HoldValues variables → others + length variables ≤ 128
-    → drop at bytes ≡ places_bytes variables ++ rest → ReadsBack bytes (variables_field others bytes at) variables rest
+pub variables_again : (form : UnitForm) (others : ℕ) (bytes : List ℕ) (at : ℕ) (variables : List Place) (rest : List ℕ) → HoldValues variables → IsCount form (length variables) → others + length variables ≤ MAX_VARIABLES
+    → drop at bytes ≡ places_bytes form variables ++ rest → ReadsBack bytes (variables_field form others bytes at) variables rest
 unfolding variables_field
-variables_again others bytes at variables rest hold few there =
-    let count = u8_field bytes at in
-    let one = u8_again bytes at (length variables) (map place_number variables ++ rest) there in
+variables_again form others bytes at variables rest hold counted few there =
+    let count = count_field form bytes at in
+    let one = count_again form bytes at (length variables) (map place_number variables ++ rest) counted (there ∙ append_assoc (count_bytes form (length variables)) (map place_number variables) rest) in
     let spelled = one.behind ∙ ap (λ (t : List ℕ). t ++ rest) (sym (one_each variables)) in
     let all = many_again bytes (λ read. variable_field bytes) (λ place. place_number place ∷ []) (λ before place. place ≢ places.Void) (λ read at place rest good there. variable_again bytes at place rest good there) [] variables count.next rest (good_places [] variables hold) one.inside spelled in
     let parse = variable_fields count.value bytes count.next in
     let same : parse ≡ variable_fields (length variables) bytes count.next = ap (λ (n : ℕ). variable_fields n bytes count.next) one.value in
     record {
       passed = first_of-append_none count.tests _ one.passed
-          ∙ test_before _ _ parse.tests (ap (λ (n : ℕ). nat_le (others + n) 128) one.value ∙ le-leb _ _ few) (ap (λ parse. first_of parse.tests) same ∙ all.passed);
+          ∙ test_before _ _ parse.tests (ap (λ (n : ℕ). nat_le (others + n) MAX_VARIABLES) one.value ∙ le-leb _ _ few) (ap (λ parse. first_of parse.tests) same ∙ all.passed);
       value = ap (λ parse. parse.value) same ∙ all.value;
       behind = ap (λ parse. drop parse.next bytes) same ∙ all.behind;
       inside = subst (λ parse. parse.next ≤ length bytes) (sym same) all.inside;

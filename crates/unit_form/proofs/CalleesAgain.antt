@@ -6,6 +6,7 @@ use Rattle.std.proofs.lemmas.Bool.{le-leb}
 use Rattle.std.proofs.lemmas.List.Sums.{sum_by-cons, sum_by_push}
 use Rattle.cc_base.specs.Tests.{first_of}
 use Rattle.cc_base.proofs.TestLemmas.{first_of-append_none}
+use Rattle.cil_model.specs.Clauses.{is_kind}
 use Rattle.cil_model.specs.Limits.{MAX_CONDITIONS, MAX_NODES, MAX_OLD_VALUES}
 use Rattle.cil_model.specs.Places.{place_number}
 use Rattle.cil_model.specs.Laws.TermsBack.{first_back}
@@ -20,11 +21,14 @@ use Rattle.cil_model.specs.declared.place.Place.{Place}
 use Rattle.cil_model.specs.declared.unit.CalleeInfo.{CalleeInfo}
 use Rattle.unit_form.specs.Callees.{callee_field, callee_fields, clause_field, clause_fields, clause_tree, clauses_field, is_clause_tree, is_kind_number, is_number_kind, kind_number, kind_numbered, next_callee, next_clause, olds_in}
 use Rattle.unit_form.specs.Fields.{name_field, place_field, u8_field, variables_field}
+use Rattle.unit_form.specs.Forms.{IsCount}
 use Rattle.unit_form.specs.Spelling.{callee_bytes, clause_bytes, clauses_bytes, name_bytes, places_bytes}
 use Rattle.unit_form.specs.TreeFields.{tree_of_roots, tree_roots}
 use Rattle.unit_form.specs.TreeSpelling.{tree_bytes}
+use Rattle.unit_form.specs.declared.form.UnitForm.{UnitForm}
+use Rattle.unit_form.proofs.ArgsFit.{ArgsFit, args_fit}
 use Rattle.unit_form.proofs.Again.{ReadsBack, both, many_again, name_again, one_test, place_again, test_before, u8_again, variables_again}
-use Rattle.unit_form.proofs.CalleesTaken.{GoodClause}
+use Rattle.unit_form.proofs.CalleesTaken.{GoodClause, IsSpelledCallee}
 use Rattle.unit_form.proofs.Taken.{AllGood}
 use Rattle.unit_form.proofs.TreesAgain.{tree_again}
 
@@ -40,12 +44,12 @@ is_good : (args : List Place) (result : Place) (before : List Clause) (clause : 
 is_good args result before clause good =
     both _ _ (both _ _ (both _ _ (le-leb _ _ good.nodes) (le-leb _ _ good.conditions)) (le-leb _ _ good.olds)) (ap is_number_kind good.number)
 
-tree_judged : (args : List Place) (result : Place) (kind : ClauseKind) (olds : ℕ) (bytes : List ℕ) (at : ℕ) (tree : Term) (rest : List ℕ) → AllByRecursion IsIntRoot (preorder tree)
-    → is_clause_tree args result kind olds tree ≡ true → at ≤ length bytes → drop at bytes ≡ tree_bytes tree ++ rest → ReadsBack bytes (clause_tree args result kind olds bytes at) tree rest
+tree_judged : (form : UnitForm) (args : List Place) (result : Place) (kind : ClauseKind) (olds : ℕ) (bytes : List ℕ) (at : ℕ) (tree : Term) (rest : List ℕ) → AllByRecursion IsIntRoot (preorder tree) → ArgsFit form tree
+    → is_clause_tree args result kind olds tree ≡ true → at ≤ length bytes → drop at bytes ≡ tree_bytes form tree ++ rest → ReadsBack bytes (clause_tree form args result kind olds bytes at) tree rest
 unfolding clause_tree
-tree_judged args result kind olds bytes at tree rest ints good before there =
-    let roots = tree_roots bytes at in
-    let one = tree_again bytes at tree rest ints before there in
+tree_judged form args result kind olds bytes at tree rest ints named good before there =
+    let roots = tree_roots form bytes at in
+    let one = tree_again form bytes at tree rest ints named before there in
     let same : tree_of_roots roots.value ≡ tree = ap tree_of_roots one.value ∙ first_back tree in
     record {
       passed = first_of-append_none roots.tests _ one.passed ∙ one_test _ _ (ap (is_clause_tree args result kind olds) same ∙ good);
@@ -54,16 +58,17 @@ tree_judged args result kind olds bytes at tree rest ints good before there =
       inside = one.inside;
     }
 
-clause_again : (args : List Place) (result : Place) (bytes : List ℕ) (before : List Clause) (at : ℕ) (clause : Clause) (rest : List ℕ) → GoodClause args result before clause
-    → drop at bytes ≡ clause_bytes clause ++ rest → ReadsBack bytes (next_clause args result bytes before at) clause rest
+clause_again : (form : UnitForm) (args : List Place) (result : Place) (bytes : List ℕ) → IsCount form (length args) → (before : List Clause) (at : ℕ) (clause : Clause) (rest : List ℕ) → GoodClause args result before clause
+    → drop at bytes ≡ clause_bytes form clause ++ rest → ReadsBack bytes (next_clause form args result bytes before at) clause rest
 unfolding clause_field
-clause_again args result bytes before at clause rest good there =
+clause_again form args result bytes few before at clause rest good there =
     let number = u8_field bytes at in
-    let one = u8_again bytes at (kind_number clause.kind) (tree_bytes clause.tree ++ rest) there in
-    let two = tree_judged args result clause.kind (olds_in before) bytes number.next clause.tree rest good.ints (is_good args result before clause good) one.inside one.behind in
+    let named = args_fit form args result few (is_kind kinds.Ensures clause.kind) clause.tree _ good.number in
+    let one = u8_again bytes at (kind_number clause.kind) (tree_bytes form clause.tree ++ rest) there in
+    let two = tree_judged form args result clause.kind (olds_in before) bytes number.next clause.tree rest good.ints named (is_good args result before clause good) one.inside one.behind in
     let kind : kind_numbered number.value ≡ clause.kind = ap kind_numbered one.value ∙ numbered_kind clause.kind in
-    let tree = clause_tree args result (kind_numbered number.value) (olds_in before) bytes number.next in
-    let same : tree ≡ clause_tree args result clause.kind (olds_in before) bytes number.next = ap (λ k. clause_tree args result k (olds_in before) bytes number.next) kind in
+    let tree = clause_tree form args result (kind_numbered number.value) (olds_in before) bytes number.next in
+    let same : tree ≡ clause_tree form args result clause.kind (olds_in before) bytes number.next = ap (λ k. clause_tree form args result k (olds_in before) bytes number.next) kind in
     let value : tree.value ≡ clause.tree = ap (λ parse. parse.value) same ∙ two.value in
     record {
       passed = first_of-append_none number.tests _ one.passed ∙ test_before _ _ tree.tests (ap is_kind_number one.value ∙ is_numbered clause.kind) (ap (λ parse. first_of parse.tests) same ∙ two.passed);
@@ -86,16 +91,16 @@ all_good args result before (clause ∷ clauses) nodes conditions olds ints numb
       all_good args result (before ++ clause ∷ []) clauses nodes.1 conditions.1 (omega (arith, olds, first, pushed)) ints.1 numbers.1,
     )
 
-clauses_again : (args : List Place) (result : Place) (bytes : List ℕ) (at : ℕ) (clauses : List Clause) (rest : List ℕ) → ClausesWithinLimits clauses → AllByRecursion HasInts clauses
-    → AllByRecursion (IsNumberClause args result) clauses → drop at bytes ≡ clauses_bytes clauses ++ rest → ReadsBack bytes (clauses_field args result bytes at) clauses rest
+clauses_again : (form : UnitForm) (args : List Place) (result : Place) (bytes : List ℕ) (at : ℕ) (clauses : List Clause) (rest : List ℕ) → IsCount form (length args) → ClausesWithinLimits clauses → AllByRecursion HasInts clauses
+    → AllByRecursion (IsNumberClause args result) clauses → drop at bytes ≡ clauses_bytes form clauses ++ rest → ReadsBack bytes (clauses_field form args result bytes at) clauses rest
 unfolding clauses_field
-clauses_again args result bytes at clauses rest limits ints numbers there =
+clauses_again form args result bytes at clauses rest few limits ints numbers there =
     let count = u8_field bytes at in
-    let one = u8_again bytes at (length clauses) (flat_map clause_bytes clauses ++ rest) there in
+    let one = u8_again bytes at (length clauses) (flat_map (clause_bytes form) clauses ++ rest) there in
     let good = all_good args result [] clauses limits.nodes limits.conditions (omega (arith, limits.old_values)) ints numbers in
-    let all = many_again bytes (next_clause args result bytes) clause_bytes (GoodClause args result) (clause_again args result bytes) [] clauses count.next rest good one.inside one.behind in
-    let parse = clause_fields count.value args result bytes count.next in
-    let same : parse ≡ clause_fields (length clauses) args result bytes count.next = ap (λ (n : ℕ). clause_fields n args result bytes count.next) one.value in
+    let all = many_again bytes (next_clause form args result bytes) (clause_bytes form) (GoodClause args result) (clause_again form args result bytes few) [] clauses count.next rest good one.inside one.behind in
+    let parse = clause_fields form count.value args result bytes count.next in
+    let same : parse ≡ clause_fields form (length clauses) args result bytes count.next = ap (λ (n : ℕ). clause_fields form n args result bytes count.next) one.value in
     record {
       passed = first_of-append_none count.tests _ one.passed
           ∙ test_before _ _ parse.tests (ap (λ (n : ℕ). nat_le n 16) one.value ∙ le-leb _ _ limits.count) (ap (λ parse. first_of parse.tests) same ∙ all.passed);
@@ -104,21 +109,21 @@ clauses_again args result bytes at clauses rest limits ints numbers there =
       inside = subst (λ parse. parse.next ≤ length bytes) (sym same) all.inside;
     }
 
-callee_again : (bytes : List ℕ) (before : List CalleeInfo) (at : ℕ) (callee : CalleeInfo) (rest : List ℕ) → IsCallee callee → drop at bytes ≡ callee_bytes callee ++ rest
-    → ReadsBack bytes (next_callee bytes before at) callee rest
+callee_again : (form : UnitForm) (bytes : List ℕ) (before : List CalleeInfo) (at : ℕ) (callee : CalleeInfo) (rest : List ℕ) → IsSpelledCallee form callee → drop at bytes ≡ callee_bytes form callee ++ rest
+    → ReadsBack bytes (next_callee form bytes before at) callee rest
 unfolding callee_field
-callee_again bytes before at callee rest is there =
+callee_again form bytes before at callee rest (is, few) there =
     let name = name_field bytes at in
     let result = place_field bytes name.next in
-    let args = variables_field 0 bytes result.next in
-    let clauses = clauses_field args.value result.value bytes args.next in
-    let behind_args = clauses_bytes callee.clauses ++ rest in
-    let one = name_again bytes at callee.name (place_number callee.result ∷ (places_bytes callee.args ++ behind_args)) is.name
-    (there ∙ append_assoc (name_bytes callee.name) _ rest ∙ ap (λ (t : List ℕ). name_bytes callee.name ++ (place_number callee.result ∷ t)) (append_assoc (places_bytes callee.args) (clauses_bytes callee.clauses) rest)) in
-    let two = place_again bytes name.next callee.result (places_bytes callee.args ++ behind_args) one.behind in
-    let three = variables_again 0 bytes result.next callee.args behind_args is.args (omega (arith, is.few_args)) two.behind in
-    let four = clauses_again callee.args callee.result bytes args.next callee.clauses rest is.clauses is.ints is.numbers three.behind in
-    let same : clauses ≡ clauses_field callee.args callee.result bytes args.next = ap₂ (λ places place. clauses_field places place bytes args.next) three.value two.value in
+    let args = variables_field form 0 bytes result.next in
+    let clauses = clauses_field form args.value result.value bytes args.next in
+    let behind_args = clauses_bytes form callee.clauses ++ rest in
+    let one = name_again bytes at callee.name (place_number callee.result ∷ (places_bytes form callee.args ++ behind_args)) is.name
+    (there ∙ append_assoc (name_bytes callee.name) _ rest ∙ ap (λ (t : List ℕ). name_bytes callee.name ++ (place_number callee.result ∷ t)) (append_assoc (places_bytes form callee.args) (clauses_bytes form callee.clauses) rest)) in
+    let two = place_again bytes name.next callee.result (places_bytes form callee.args ++ behind_args) one.behind in
+    let three = variables_again form 0 bytes result.next callee.args behind_args is.args few (omega (arith, is.few_args)) two.behind in
+    let four = clauses_again form callee.args callee.result bytes args.next callee.clauses rest few is.clauses is.ints is.numbers three.behind in
+    let same : clauses ≡ clauses_field form callee.args callee.result bytes args.next = ap₂ (λ places place. clauses_field form places place bytes args.next) three.value two.value in
     let last : clauses.value ≡ callee.clauses = ap (λ parse. parse.value) same ∙ four.value in
     record {
       passed = first_of-append_none name.tests _ one.passed ∙ first_of-append_none result.tests _ two.passed ∙ first_of-append_none args.tests _ three.passed ∙ ap (λ parse. first_of parse.tests) same ∙ four.passed;
@@ -131,11 +136,12 @@ callee_again bytes before at callee rest is there =
         → ◌≡◌ {A = CalleeInfo} (record { name = name; result = result; args = args; clauses = clauses }) callee
     record_path e f g h = rw (e, f, g, h) refl
 
-good_callees : (before callees : List CalleeInfo) → AllByRecursion IsCallee callees → AllGood (λ earlier callee. IsCallee callee) before callees
-good_callees before [] all = tt
-good_callees before (callee ∷ callees) all = (all.0, good_callees (before ++ callee ∷ []) callees all.1)
+good_callees : (form : UnitForm) (before callees : List CalleeInfo) → AllByRecursion IsCallee callees → AllByRecursion (λ callee. IsCount form (length callee.args)) callees
+    → AllGood (λ earlier callee. IsSpelledCallee form callee) before callees
+good_callees form before [] all counts = tt
+good_callees form before (callee ∷ callees) all counts = ((all.0, counts.0), good_callees form (before ++ callee ∷ []) callees all.1 counts.1)
 
-pub callees_again : (bytes : List ℕ) (at : ℕ) (callees : List CalleeInfo) (rest : List ℕ) → AllByRecursion IsCallee callees → at ≤ length bytes → drop at bytes ≡ flat_map callee_bytes callees ++ rest
-    → ReadsBack bytes (callee_fields (length callees) bytes at) callees rest
-callees_again bytes at callees rest all before there =
-    many_again bytes (next_callee bytes) callee_bytes (λ earlier callee. IsCallee callee) (callee_again bytes) [] callees at rest (good_callees [] callees all) before there
+pub callees_again : (form : UnitForm) (bytes : List ℕ) (at : ℕ) (callees : List CalleeInfo) (rest : List ℕ) → AllByRecursion IsCallee callees → AllByRecursion (λ callee. IsCount form (length callee.args)) callees → at ≤ length bytes → drop at bytes ≡ flat_map (callee_bytes form) callees ++ rest
+    → ReadsBack bytes (callee_fields form (length callees) bytes at) callees rest
+callees_again form bytes at callees rest all counts before there =
+    many_again bytes (next_callee form bytes) (callee_bytes form) (λ earlier callee. IsSpelledCallee form callee) (callee_again form bytes) [] callees at rest (good_callees form [] callees all counts) before there

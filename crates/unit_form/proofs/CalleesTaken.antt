@@ -21,9 +21,11 @@ use Rattle.cil_model.specs.declared.place.Place.{Place}
 use Rattle.cil_model.specs.declared.unit.CalleeInfo.{CalleeInfo}
 use Rattle.unit_form.specs.Callees.{callee_field, callee_fields, clause_field, clause_fields, clause_tree, clauses_field, is_clause_tree, is_kind_number, is_number_kind, keeps_limits, kind_number, kind_numbered, next_callee, next_clause, olds_in}
 use Rattle.unit_form.specs.Fields.{name_field, place_field, u8_field, variables_field}
+use Rattle.unit_form.specs.Forms.{IsCount}
 use Rattle.unit_form.specs.Spelling.{callee_bytes, clause_bytes, clauses_bytes, name_bytes, places_bytes}
 use Rattle.unit_form.specs.TreeFields.{tree_roots}
 use Rattle.unit_form.specs.TreeSpelling.{tree_bytes}
+use Rattle.unit_form.specs.declared.form.UnitForm.{UnitForm}
 use Rattle.unit_form.proofs.Counted.{length-many}
 use Rattle.unit_form.proofs.Taken.{AllGood, Stands, both_true, holds, many_taken, name_taken, place_taken, u8_taken, variables_taken}
 use Rattle.unit_form.proofs.TreesTaken.{tree_ints, tree_taken}
@@ -63,29 +65,29 @@ good_clause args result before kind tree e ints =
     let three = both_true (nat_le (term_size tree) MAX_NODES) _ two.0 in
     record { nodes = leb-true _ _ three.0; conditions = leb-true _ _ three.1; olds = leb-true _ _ two.1; ints = ints; number = number_kind _ parts.1 }
 
-tree_judged : (args : List Place) (result : Place) (kind : ClauseKind) (olds : ℕ) (bytes : List ℕ) (at : ℕ) → IsBytes bytes → first_of (clause_tree args result kind olds bytes at).tests ≡ None
-    → Stands bytes at (clause_tree args result kind olds bytes at) (tree_bytes (clause_tree args result kind olds bytes at).value)
-    × ((is_clause_tree args result kind olds (clause_tree args result kind olds bytes at).value ≡ true) × AllByRecursion IsIntRoot (preorder (clause_tree args result kind olds bytes at).value))
+tree_judged : (form : UnitForm) (args : List Place) (result : Place) (kind : ClauseKind) (olds : ℕ) (bytes : List ℕ) (at : ℕ) → IsBytes bytes → first_of (clause_tree form args result kind olds bytes at).tests ≡ None
+    → Stands bytes at (clause_tree form args result kind olds bytes at) (tree_bytes form (clause_tree form args result kind olds bytes at).value)
+    × ((is_clause_tree args result kind olds (clause_tree form args result kind olds bytes at).value ≡ true) × AllByRecursion IsIntRoot (preorder (clause_tree form args result kind olds bytes at).value))
 unfolding clause_tree
-tree_judged args result kind olds bytes at fits passed =
-    let roots = tree_roots bytes at in
+tree_judged form args result kind olds bytes at fits passed =
+    let roots = tree_roots form bytes at in
     let one = none_before roots.tests _ passed in
     let two = none_here _ [] (none_behind roots.tests _ passed) in
-    (record { there = (tree_taken bytes at fits one).there }, (holds _ _ two, tree_ints bytes at fits one))
+    (record { there = (tree_taken form bytes at fits one).there }, (holds _ _ two, tree_ints form bytes at fits one))
 
-clause_taken : (args : List Place) (result : Place) (bytes : List ℕ) → IsBytes bytes → (before : List Clause) (at : ℕ) → first_of (next_clause args result bytes before at).tests ≡ None
-    → Stands bytes at (next_clause args result bytes before at) (clause_bytes (next_clause args result bytes before at).value)
-    × GoodClause args result before (next_clause args result bytes before at).value
+clause_taken : (form : UnitForm) (args : List Place) (result : Place) (bytes : List ℕ) → IsBytes bytes → (before : List Clause) (at : ℕ) → first_of (next_clause form args result bytes before at).tests ≡ None
+    → Stands bytes at (next_clause form args result bytes before at) (clause_bytes form (next_clause form args result bytes before at).value)
+    × GoodClause args result before (next_clause form args result bytes before at).value
 unfolding clause_field
-clause_taken args result bytes fits before at passed =
+clause_taken form args result bytes fits before at passed =
     let number = u8_field bytes at in
     let kind = kind_numbered number.value in
-    let tree = clause_tree args result kind (olds_in before) bytes number.next in
+    let tree = clause_tree form args result kind (olds_in before) bytes number.next in
     let one = none_before number.tests _ passed in
     let rest = none_behind number.tests (must (is_kind_number number.value) _ ∷ tree.tests) passed in
     let two = none_here _ tree.tests rest in
     let three = none_behind (must (is_kind_number number.value) _ ∷ []) tree.tests rest in
-    let judged = tree_judged args result kind (olds_in before) bytes number.next fits three in (
+    let judged = tree_judged form args result kind (olds_in before) bytes number.next fits three in (
       record {
         there = (u8_taken bytes at one).there ∙ ap (λ (n : ℕ). n ∷ drop number.next bytes) (sym (numbered_kind number.value (holds _ _ two)))
             ∙ ap (λ (t : List ℕ). kind_number kind ∷ t) judged.0.there;
@@ -114,23 +116,23 @@ good_clauses args result before (clause ∷ clauses) good =
       numbers = (good.0.number, later.numbers);
     }
 
-pub record ClausesTaken (args : List Place) (result : Place) (bytes : List ℕ) (at : ℕ) : Type 0 where
-  pub stands : Stands bytes at (clauses_field args result bytes at) (clauses_bytes (clauses_field args result bytes at).value)
-  pub limits : ClausesWithinLimits (clauses_field args result bytes at).value
-  pub ints : AllByRecursion HasInts (clauses_field args result bytes at).value
-  pub numbers : AllByRecursion (IsNumberClause args result) (clauses_field args result bytes at).value
+pub record ClausesTaken (form : UnitForm) (args : List Place) (result : Place) (bytes : List ℕ) (at : ℕ) : Type 0 where
+  pub stands : Stands bytes at (clauses_field form args result bytes at) (clauses_bytes form (clauses_field form args result bytes at).value)
+  pub limits : ClausesWithinLimits (clauses_field form args result bytes at).value
+  pub ints : AllByRecursion HasInts (clauses_field form args result bytes at).value
+  pub numbers : AllByRecursion (IsNumberClause args result) (clauses_field form args result bytes at).value
 
-clauses_taken : (args : List Place) (result : Place) (bytes : List ℕ) (at : ℕ) → IsBytes bytes → first_of (clauses_field args result bytes at).tests ≡ None → ClausesTaken args result bytes at
+clauses_taken : (form : UnitForm) (args : List Place) (result : Place) (bytes : List ℕ) (at : ℕ) → IsBytes bytes → first_of (clauses_field form args result bytes at).tests ≡ None → ClausesTaken form args result bytes at
 unfolding clauses_field
-clauses_taken args result bytes at fits passed =
+clauses_taken form args result bytes at fits passed =
     let count = u8_field bytes at in
-    let clauses = clause_fields count.value args result bytes count.next in
+    let clauses = clause_fields form count.value args result bytes count.next in
     let one = none_before count.tests _ passed in
     let rest = none_behind count.tests (must (nat_le count.value 16) _ ∷ clauses.tests) passed in
     let two = none_here _ clauses.tests rest in
     let three = none_behind (must (nat_le count.value 16) _ ∷ []) clauses.tests rest in
-    let all = many_taken bytes (next_clause args result bytes) clause_bytes (GoodClause args result) (clause_taken args result bytes fits) count.value [] count.next three in
-    let size = length-many (next_clause args result bytes) [] count.value count.next in
+    let all = many_taken bytes (next_clause form args result bytes) (clause_bytes form) (GoodClause args result) (clause_taken form args result bytes fits) count.value [] count.next three in
+    let size = length-many (next_clause form args result bytes) [] count.value count.next in
     let good = good_clauses args result [] clauses.value all.1 in
     record {
       stands = record { there = (u8_taken bytes at one).there ∙ ap (λ (n : ℕ). n ∷ drop count.next bytes) (sym size) ∙ ap (λ (t : List ℕ). length clauses.value ∷ t) all.0.there };
@@ -141,36 +143,45 @@ clauses_taken args result bytes at fits passed =
 
 -- ---- callees
 
-pub callee_taken : (bytes : List ℕ) → IsBytes bytes → (before : List CalleeInfo) (at : ℕ) → first_of (next_callee bytes before at).tests ≡ None
-    → Stands bytes at (next_callee bytes before at) (callee_bytes (next_callee bytes before at).value) × IsCallee (next_callee bytes before at).value
+-- A callee whose arguments can be counted in this form.
+abbrev pub IsSpelledCallee : UnitForm → CalleeInfo → Type 0
+IsSpelledCallee form callee = IsCallee callee × IsCount form (length callee.args)
+
+pub callee_taken : (form : UnitForm) (bytes : List ℕ) → IsBytes bytes → (before : List CalleeInfo) (at : ℕ) → first_of (next_callee form bytes before at).tests ≡ None
+    → Stands bytes at (next_callee form bytes before at) (callee_bytes form (next_callee form bytes before at).value) × IsSpelledCallee form (next_callee form bytes before at).value
 unfolding callee_field
-callee_taken bytes fits before at passed =
+callee_taken form bytes fits before at passed =
     let name = name_field bytes at in
     let result = place_field bytes name.next in
-    let args = variables_field 0 bytes result.next in
-    let clauses = clauses_field args.value result.value bytes args.next in
+    let args = variables_field form 0 bytes result.next in
+    let clauses = clauses_field form args.value result.value bytes args.next in
     let rest1 = none_behind name.tests (result.tests ++ (args.tests ++ clauses.tests)) passed in
     let rest2 = none_behind result.tests (args.tests ++ clauses.tests) rest1 in
     let one = name_taken bytes at fits (none_before name.tests _ passed) in
     let two = place_taken bytes name.next (none_before result.tests _ rest1) in
-    let three = variables_taken 0 bytes result.next (none_before args.tests _ rest2) in
-    let four = clauses_taken args.value result.value bytes args.next fits (none_behind args.tests clauses.tests rest2) in (
+    let three = variables_taken form 0 bytes result.next fits (none_before args.tests _ rest2) in
+    let four = clauses_taken form args.value result.value bytes args.next fits (none_behind args.tests clauses.tests rest2) in (
       record {
         there = one.stands.there ∙ ap (λ (t : List ℕ). name_bytes name.value ++ t)
             (two.there ∙ ap (λ (t : List ℕ). place_number result.value ∷ t)
-            (three.stands.there ∙ ap (λ (t : List ℕ). places_bytes args.value ++ t) four.stands.there
-            ∙ sym (append_assoc (places_bytes args.value) (clauses_bytes clauses.value) _)))
-            ∙ sym (append_assoc (name_bytes name.value) (place_number result.value ∷ (places_bytes args.value ++ clauses_bytes clauses.value)) _);
+            (three.stands.there ∙ ap (λ (t : List ℕ). places_bytes form args.value ++ t) four.stands.there
+            ∙ sym (append_assoc (places_bytes form args.value) (clauses_bytes form clauses.value) _)))
+            ∙ sym (append_assoc (name_bytes name.value) (place_number result.value ∷ (places_bytes form args.value ++ clauses_bytes form clauses.value)) _);
       },
-      record { args = three.hold; few_args = omega (arith, three.few); name = one.name; clauses = four.limits; ints = four.ints; numbers = four.numbers },
+      (record { args = three.hold; few_args = omega (arith, three.few); name = one.name; clauses = four.limits; ints = four.ints; numbers = four.numbers }, three.count),
     )
 
-all_callees : (before callees : List CalleeInfo) → AllGood (λ earlier callee. IsCallee callee) before callees → AllByRecursion IsCallee callees
-all_callees before [] good = tt
-all_callees before (callee ∷ callees) good = (good.0, all_callees (before ++ callee ∷ []) callees good.1)
+all_callees : (form : UnitForm) (before callees : List CalleeInfo) → AllGood (λ earlier callee. IsSpelledCallee form callee) before callees
+    → AllByRecursion IsCallee callees × AllByRecursion (λ callee. IsCount form (length callee.args)) callees
+all_callees form before [] good = (tt, tt)
+all_callees form before (callee ∷ callees) good =
+    let later = all_callees form (before ++ callee ∷ []) callees good.1 in
+    ((good.0.0, later.0), (good.0.1, later.1))
 
-pub callees_taken : (count : ℕ) (bytes : List ℕ) (at : ℕ) → IsBytes bytes → first_of (callee_fields count bytes at).tests ≡ None
-    → Stands bytes at (callee_fields count bytes at) (flat_map callee_bytes (callee_fields count bytes at).value) × AllByRecursion IsCallee (callee_fields count bytes at).value
-callees_taken count bytes at fits passed =
-    let all = many_taken bytes (next_callee bytes) callee_bytes (λ earlier callee. IsCallee callee) (callee_taken bytes fits) count [] at passed in
-    (all.0, all_callees [] (callee_fields count bytes at).value all.1)
+pub callees_taken : (form : UnitForm) (count : ℕ) (bytes : List ℕ) (at : ℕ) → IsBytes bytes → first_of (callee_fields form count bytes at).tests ≡ None
+    → Stands bytes at (callee_fields form count bytes at) (flat_map (callee_bytes form) (callee_fields form count bytes at).value) × AllByRecursion IsCallee (callee_fields form count bytes at).value
+    × AllByRecursion (λ callee. IsCount form (length callee.args)) (callee_fields form count bytes at).value
+callees_taken form count bytes at fits passed =
+    let all = many_taken bytes (next_callee form bytes) (callee_bytes form) (λ earlier callee. IsSpelledCallee form callee) (callee_taken form bytes fits) count [] at passed in
+    let good = all_callees form [] (callee_fields form count bytes at).value all.1 in
+    (all.0, good.0, good.1)

@@ -15,17 +15,18 @@ use Rattle.unit_form.specs.Parses.{IsRead}
 use Rattle.unit_form.specs.TreeFields.{tree_of_roots, tree_roots}
 use Rattle.unit_form.specs.declared.field_fault.FieldFault.{FieldFault}
 use Rattle.unit_form.specs.declared.field_fault.FieldFault.TheVariants.{Form}
+use Rattle.unit_form.specs.declared.form.UnitForm.{UnitForm}
 use Rattle.unit_form.proofs.WholeTrees.{one_tree, size_of_roots}
 
 -- Where no more than 4,096 roots were kept, they are all.
 all_kept : (whole roots : List Root) → roots ≡ take 4097 whole → length roots ≤ 4096 → roots ≡ whole
 all_kept whole roots e few = e ∙ take_all 4097 whole (omega (arith, ap length e, length-take 4097 whole, few))
 
-pub kept_small : (bytes : List ℕ) (at : ℕ) (roots : List Root) → first_of (tree_roots bytes at).tests ≡ None → roots ≡ take 4097 (tree_roots bytes at).value
+pub kept_small : (form : UnitForm) (bytes : List ℕ) (at : ℕ) (roots : List Root) → first_of (tree_roots form bytes at).tests ≡ None → roots ≡ take 4097 (tree_roots form bytes at).value
     → length roots ≤ 4096 → term_size (tree_of_roots roots) ≤ 4096
-kept_small bytes at roots passed e few =
-    let all = all_kept (tree_roots bytes at).value roots e few in
-    let size = size_of_roots (tree_roots bytes at).value (one_tree bytes at passed) in
+kept_small form bytes at roots passed e few =
+    let all = all_kept (tree_roots form bytes at).value roots e few in
+    let size = size_of_roots (tree_roots form bytes at).value (one_tree form bytes at passed) in
     rw all (omega (arith, size, few, ap length all))
 
 -- Where more were kept, the tree is too large.
@@ -36,21 +37,21 @@ too_large args result kind olds tree large = by_size (nat_le (term_size tree) 40
     by_size true e = absurd (omega (arith, large, leb-true _ _ e))
     by_size false e = rw e refl
 
-kept_is : (args : List Place) (result : Place) (kind : ClauseKind) (olds : ℕ) (bytes : List ℕ) (at : ℕ) (roots : List Root) → first_of (tree_roots bytes at).tests ≡ None
-    → roots ≡ take 4097 (tree_roots bytes at).value
+kept_is : (form : UnitForm) (args : List Place) (result : Place) (kind : ClauseKind) (olds : ℕ) (bytes : List ℕ) (at : ℕ) (roots : List Root) → first_of (tree_roots form bytes at).tests ≡ None
+    → roots ≡ take 4097 (tree_roots form bytes at).value
     → kept_tree args result kind olds roots
-    ≡ (if is_clause_tree args result kind olds (tree_of_roots (tree_roots bytes at).value) then Some (tree_of_roots (tree_roots bytes at).value) else None)
-kept_is args result kind olds bytes at roots passed e = by_size (nat_lt 4096 (length roots)) refl
+    ≡ (if is_clause_tree args result kind olds (tree_of_roots (tree_roots form bytes at).value) then Some (tree_of_roots (tree_roots form bytes at).value) else None)
+kept_is form args result kind olds bytes at roots passed e = by_size (nat_lt 4096 (length roots)) refl
   where
     by_size : (many : Bool) → nat_lt 4096 (length roots) ≡ many
         → kept_tree args result kind olds roots
-        ≡ (if is_clause_tree args result kind olds (tree_of_roots (tree_roots bytes at).value) then Some (tree_of_roots (tree_roots bytes at).value) else None)
+        ≡ (if is_clause_tree args result kind olds (tree_of_roots (tree_roots form bytes at).value) then Some (tree_of_roots (tree_roots form bytes at).value) else None)
     by_size true t =
-        let size = size_of_roots (tree_roots bytes at).value (one_tree bytes at passed) in
-        let large = too_large args result kind olds (tree_of_roots (tree_roots bytes at).value) (omega (arith, size, ltb-true _ _ t, ap length e, length-take 4097 (tree_roots bytes at).value)) in
+        let size = size_of_roots (tree_roots form bytes at).value (one_tree form bytes at passed) in
+        let large = too_large args result kind olds (tree_of_roots (tree_roots form bytes at).value) (omega (arith, size, ltb-true _ _ t, ap length e, length-take 4097 (tree_roots form bytes at).value)) in
         rw (t, large) refl
     by_size false t =
-        let all = all_kept (tree_roots bytes at).value roots e (ltb-false _ _ t) in
+        let all = all_kept (tree_roots form bytes at).value roots e (ltb-false _ _ t) in
         rw t (ap (λ rs. if is_clause_tree args result kind olds (tree_of_roots rs) then Some (tree_of_roots rs) else None) all)
 
 if_some : {X : Type 0} (test : Bool) (x y : X) → Some x ≡ (if test then Some y else None) → (x ≡ y) × (test ≡ true)
@@ -61,29 +62,29 @@ if_none : {X : Type 0} (test : Bool) (y : X) → None ≡ (if test then Some y e
 if_none true y e = absurd (cc)
 if_none false y e = refl
 
-pub kept_read : (args : List Place) (result : Place) (kind : ClauseKind) (olds : ℕ) (bytes : List ℕ) (at next : ℕ) (roots : List Root) (tree : Term)
-    → first_of (tree_roots bytes at).tests ≡ None → roots ≡ take 4097 (tree_roots bytes at).value → Some tree ≡ kept_tree args result kind olds roots
-    → next ≡ (tree_roots bytes at).next → next ≤ length bytes
-    → (first_of (clause_tree args result kind olds bytes at).tests ≡ None)
-    × (IsRead bytes (clause_tree args result kind olds bytes at) tree next × (is_clause_tree args result kind olds tree ≡ true))
+pub kept_read : (form : UnitForm) (args : List Place) (result : Place) (kind : ClauseKind) (olds : ℕ) (bytes : List ℕ) (at next : ℕ) (roots : List Root) (tree : Term)
+    → first_of (tree_roots form bytes at).tests ≡ None → roots ≡ take 4097 (tree_roots form bytes at).value → Some tree ≡ kept_tree args result kind olds roots
+    → next ≡ (tree_roots form bytes at).next → next ≤ length bytes
+    → (first_of (clause_tree form args result kind olds bytes at).tests ≡ None)
+    × (IsRead bytes (clause_tree form args result kind olds bytes at) tree next × (is_clause_tree args result kind olds tree ≡ true))
 unfolding clause_tree
-kept_read args result kind olds bytes at next roots tree passed e kept f inside =
-    let found = if_some _ tree _ (kept ∙ kept_is args result kind olds bytes at roots passed e) in (
+kept_read form args result kind olds bytes at next roots tree passed e kept f inside =
+    let found = if_some _ tree _ (kept ∙ kept_is form args result kind olds bytes at roots passed e) in (
       first_of-append_none _ _ passed ∙ first_of-none _ [] (ap (λ holds. must holds (Form at)) found.1) ∙ first_of-nil,
       ((found.0, f, inside), ap (is_clause_tree args result kind olds) found.0 ∙ found.1),
     )
 
-pub kept_refused : (args : List Place) (result : Place) (kind : ClauseKind) (olds : ℕ) (bytes : List ℕ) (at : ℕ) (roots : List Root)
-    → first_of (tree_roots bytes at).tests ≡ None → roots ≡ take 4097 (tree_roots bytes at).value → None ≡ kept_tree args result kind olds roots
-    → first_of (clause_tree args result kind olds bytes at).tests ≡ Some (Form at)
+pub kept_refused : (form : UnitForm) (args : List Place) (result : Place) (kind : ClauseKind) (olds : ℕ) (bytes : List ℕ) (at : ℕ) (roots : List Root)
+    → first_of (tree_roots form bytes at).tests ≡ None → roots ≡ take 4097 (tree_roots form bytes at).value → None ≡ kept_tree args result kind olds roots
+    → first_of (clause_tree form args result kind olds bytes at).tests ≡ Some (Form at)
 unfolding clause_tree
-kept_refused args result kind olds bytes at roots passed e kept =
-    first_of-append_none _ _ passed ∙ must-failed _ (Form at) [] (if_none _ _ (kept ∙ kept_is args result kind olds bytes at roots passed e))
+kept_refused form args result kind olds bytes at roots passed e kept =
+    first_of-append_none _ _ passed ∙ must-failed _ (Form at) [] (if_none _ _ (kept ∙ kept_is form args result kind olds bytes at roots passed e))
 
-pub tree_cut : (args : List Place) (result : Place) (kind : ClauseKind) (olds : ℕ) (bytes : List ℕ) (at : ℕ) (fault : FieldFault)
-    → first_of (tree_roots bytes at).tests ≡ Some fault → first_of (clause_tree args result kind olds bytes at).tests ≡ Some fault
+pub tree_cut : (form : UnitForm) (args : List Place) (result : Place) (kind : ClauseKind) (olds : ℕ) (bytes : List ℕ) (at : ℕ) (fault : FieldFault)
+    → first_of (tree_roots form bytes at).tests ≡ Some fault → first_of (clause_tree form args result kind olds bytes at).tests ≡ Some fault
 unfolding clause_tree
-tree_cut args result kind olds bytes at fault cut = first_of-append_some _ _ fault cut
+tree_cut form args result kind olds bytes at fault cut = first_of-append_some _ _ fault cut
 
 pub one_more_old : (clauses : List Clause) (clause : Clause) → olds_in (clauses ++ clause ∷ []) ≡ olds_in clauses + old_count clause.tree
 one_more_old clauses clause = sum_by_push (λ clause. old_count clause.tree) clauses clause

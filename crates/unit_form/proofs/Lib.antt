@@ -10,11 +10,11 @@ mod Taken
 mod TreesTaken
 mod CalleesTaken
 pub mod UnitTaken
+mod ArgsFit
 mod Again
 mod TreesAgain
 mod CalleesAgain
 pub mod UnitAgain
 pub mod OffsetsCounted
 mod TreesWritten
-mod UnitWritten
 pub mod SpellingBytes

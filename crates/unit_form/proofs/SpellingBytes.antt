@@ -1,5 +1,5 @@
 -- The spelling of a unit is a list of bytes.
-use Rattle.std.proofs.Common.{ℕ, ◌<◌, ◌≤◌, List, [], ◌∷◌, ◌++◌, length, map, codes, sym, subst, arith}
+use Rattle.std.proofs.Common.{ℕ, ◌<◌, ◌≤◌, List, [], ◌∷◌, ◌++◌, length, map, sym, subst, arith}
 use Rattle.std.specs.List.{AllByRecursion, flat_map}
 use Rattle.std.proofs.lemmas.List.Concat.{flat_map-cons}
 use Rattle.byteorder.specs.Endian.{little_bytes}
@@ -21,16 +21,22 @@ use Rattle.cil_model.specs.declared.place.Place.{Place}
 use Rattle.cil_model.specs.declared.place.Place.TheVariants as places
 use Rattle.cil_model.specs.declared.unit.CalleeInfo.{CalleeInfo}
 use Rattle.cil_model.specs.declared.unit.Unit.{Unit as MethodUnit}
-use Rattle.unit_form.proofs.UnitWritten.{callee_args}
 use Rattle.unit_form.specs.Callees.{kind_number}
-use Rattle.unit_form.specs.Spelling.{HasByteArgs, HasFields, callee_bytes, clause_bytes, clauses_bytes, name_bytes, places_bytes, unit_bytes}
-use Rattle.unit_form.specs.TreeSpelling.{IsByteArg, operator_byte, root_bytes, unary_byte}
+use Rattle.unit_form.specs.Forms.{count_bytes, count_size, magic}
+use Rattle.unit_form.specs.Spelling.{HasFields, callee_bytes, clause_bytes, clauses_bytes, name_bytes, places_bytes, unit_bytes, unit_spelling}
+use Rattle.unit_form.specs.TreeSpelling.{operator_byte, root_bytes, unary_byte}
+use Rattle.unit_form.specs.declared.form.UnitForm.{UnitForm}
+use Rattle.unit_form.specs.declared.form.UnitForm.TheVariants.{First, Second}
 
 -- ---- lists of parts
 
 each_fits : {X : Type 0} (spell : X → List ℕ) (P : X → Type 0) → ((x : X) → P x → IsBytes (spell x)) → (xs : List X) → AllByRecursion P xs → IsBytes (flat_map spell xs)
 each_fits spell P fits [] all = IsBytes-nil
 each_fits spell P fits (x ∷ xs) all = subst IsBytes (sym (flat_map-cons spell x xs)) (IsBytes-append (spell x) (flat_map spell xs) (fits x all.0) (each_fits spell P fits xs all.1))
+
+all_fit : {X : Type 0} (spell : X → List ℕ) → ((x : X) → IsBytes (spell x)) → (xs : List X) → IsBytes (flat_map spell xs)
+all_fit spell fits [] = IsBytes-nil
+all_fit spell fits (x ∷ xs) = subst IsBytes (sym (flat_map-cons spell x xs)) (IsBytes-append (spell x) (flat_map spell xs) (fits x) (all_fit spell fits xs))
 
 number_fits : (width n : ℕ) (rest : List ℕ) → IsBytes rest → IsBytes (little_bytes width n ++ rest)
 number_fits width n rest fits = IsBytes-append (little_bytes width n) rest (IsBytes-little_bytes width n) fits
@@ -55,8 +61,8 @@ types_fit : (types : List Place) → IsBytes (map place_number types)
 types_fit [] = IsBytes-nil
 types_fit (place ∷ types) = IsBytes-cons (place_number place) (map place_number types) (place_fits place) (types_fit types)
 
-places_fit : (types : List Place) → length types ≤ 128 → IsBytes (places_bytes types)
-places_fit types few = IsBytes-cons (length types) (map place_number types) (omega (arith, few)) (types_fit types)
+places_fit : (form : UnitForm) (types : List Place) → IsBytes (places_bytes form types)
+places_fit form types = number_fits (count_size form) (length types) (map place_number types) (types_fit types)
 
 -- ---- clauses
 
@@ -74,56 +80,60 @@ one_fits a less = IsBytes-cons a [] less IsBytes-nil
 two_fit : (a b : ℕ) → a < 256 → b < 256 → IsBytes (a ∷ b ∷ [])
 two_fit a b less small = IsBytes-cons a (b ∷ []) less (one_fits b small)
 
-root_fits : (root : Root) → IsByteArg root → IsBytes (root_bytes root)
-root_fits (ConstRoot n) small = IsBytes-cons 1 (little_bytes 4 (unsigned n)) (omega arith) (IsBytes-little_bytes 4 (unsigned n))
-root_fits (ArgRoot n) small = two_fit 2 n (omega arith) small
-root_fits NullRoot small = one_fits 3 (omega arith)
-root_fits ResultRoot small = one_fits 4 (omega arith)
-root_fits LenRoot small = one_fits 5 (omega arith)
-root_fits (ElemRoot place) small = two_fit 6 (place_number place) (omega arith) (place_fits place)
-root_fits (BinRoot operator) small = two_fit 7 (operator_byte operator) (omega arith) (operator_fits operator)
-root_fits (UnRoot operator) small = two_fit 8 (unary_byte operator) (omega arith) (unary_fits operator)
-root_fits OldRoot small = one_fits 9 (omega arith)
-root_fits CondRoot small = one_fits 10 (omega arith)
+root_fits : (form : UnitForm) (root : Root) → IsBytes (root_bytes form root)
+root_fits form (ConstRoot n) = IsBytes-cons 1 (little_bytes 4 (unsigned n)) (omega arith) (IsBytes-little_bytes 4 (unsigned n))
+root_fits form (ArgRoot n) = IsBytes-cons 2 (count_bytes form n) (omega arith) (IsBytes-little_bytes (count_size form) n)
+root_fits form NullRoot = one_fits 3 (omega arith)
+root_fits form ResultRoot = one_fits 4 (omega arith)
+root_fits form LenRoot = one_fits 5 (omega arith)
+root_fits form (ElemRoot place) = two_fit 6 (place_number place) (omega arith) (place_fits place)
+root_fits form (BinRoot operator) = two_fit 7 (operator_byte operator) (omega arith) (operator_fits operator)
+root_fits form (UnRoot operator) = two_fit 8 (unary_byte operator) (omega arith) (unary_fits operator)
+root_fits form OldRoot = one_fits 9 (omega arith)
+root_fits form CondRoot = one_fits 10 (omega arith)
 
 kind_fits : (kind : ClauseKind) → kind_number kind < 256
 kind_fits kinds.Requires = omega arith
 kind_fits kinds.Ensures = omega arith
 
-clause_fits : (clause : Clause) → HasByteArgs clause → IsBytes (clause_bytes clause)
-clause_fits clause small =
-    IsBytes-cons (kind_number clause.kind) (flat_map root_bytes (preorder clause.tree)) (kind_fits clause.kind) (each_fits root_bytes IsByteArg root_fits (preorder clause.tree) small)
+clause_fits : (form : UnitForm) (clause : Clause) → IsBytes (clause_bytes form clause)
+clause_fits form clause =
+    IsBytes-cons (kind_number clause.kind) (flat_map (root_bytes form) (preorder clause.tree)) (kind_fits clause.kind) (all_fit (root_bytes form) (root_fits form) (preorder clause.tree))
 
-clauses_fit : (clauses : List Clause) → length clauses ≤ MAX_CLAUSES → AllByRecursion HasByteArgs clauses → IsBytes (clauses_bytes clauses)
-clauses_fit clauses few small = IsBytes-cons (length clauses) (flat_map clause_bytes clauses) (omega (arith, few)) (each_fits clause_bytes HasByteArgs clause_fits clauses small)
+clauses_fit : (form : UnitForm) (clauses : List Clause) → length clauses ≤ MAX_CLAUSES → IsBytes (clauses_bytes form clauses)
+clauses_fit form clauses few = IsBytes-cons (length clauses) (flat_map (clause_bytes form) clauses) (omega (arith, few)) (all_fit (clause_bytes form) (clause_fits form) clauses)
 
 -- ---- callees and units
 
-callee_fits : (callee : CalleeInfo) → IsCallee callee → IsBytes (callee_bytes callee)
-callee_fits callee is =
-    let part2 = places_bytes callee.args ++ clauses_bytes callee.clauses in
-    let fits2 = IsBytes-append (places_bytes callee.args) (clauses_bytes callee.clauses) (places_fit callee.args is.few_args) (clauses_fit callee.clauses is.clauses.count (callee_args callee is)) in
+callee_fits : (form : UnitForm) (callee : CalleeInfo) → IsCallee callee → IsBytes (callee_bytes form callee)
+callee_fits form callee is =
+    let part2 = places_bytes form callee.args ++ clauses_bytes form callee.clauses in
+    let fits2 = IsBytes-append (places_bytes form callee.args) (clauses_bytes form callee.clauses) (places_fit form callee.args) (clauses_fit form callee.clauses is.clauses.count) in
     IsBytes-append (name_bytes callee.name) (place_number callee.result ∷ part2) (name_fits callee.name is.name) (IsBytes-cons (place_number callee.result) part2 (place_fits callee.result) fits2)
 
-letters_fit : IsBytes (codes "CCU1")
-letters_fit = search (arith, IsBytes-cons, IsBytes-nil)
+letters_fit : (form : UnitForm) → IsBytes (magic form)
+letters_fit First = search (arith, IsBytes-cons, IsBytes-nil)
+letters_fit Second = search (arith, IsBytes-cons, IsBytes-nil)
 
--- A unit whose code is a list of bytes is spelled in bytes.
-pub unit_fits : (unit : MethodUnit) → HasFields unit → IsBytes unit.code → IsBytes (unit_bytes unit)
-unfolding unit_bytes
-unit_fits unit has code =
-    let variables = has.variables in
+-- A unit whose code is a list of bytes is spelled in bytes, in each form.
+pub spelling_fits : (form : UnitForm) (unit : MethodUnit) → HasFields unit → IsBytes unit.code → IsBytes (unit_spelling form unit)
+unfolding unit_spelling
+spelling_fits form unit has code =
     let part8 = little_bytes 4 (length unit.code) ++ unit.code in
-    let part7 = flat_map callee_bytes unit.callees ++ part8 in
+    let part7 = flat_map (callee_bytes form) unit.callees ++ part8 in
     let part6 = little_bytes 2 (length unit.callees) ++ part7 in
-    let part5 = unit.max_stack ∷ part6 in
-    let part4 = places_bytes unit.locals ++ part5 in
-    let part3 = places_bytes unit.args ++ part4 in
+    let part5 = count_bytes form unit.max_stack ++ part6 in
+    let part4 = places_bytes form unit.locals ++ part5 in
+    let part3 = places_bytes form unit.args ++ part4 in
     let part2 = place_number unit.result ∷ part3 in
     let part1 = name_bytes unit.name ++ part2 in
-    let fits7 = IsBytes-append (flat_map callee_bytes unit.callees) part8 (each_fits callee_bytes IsCallee callee_fits unit.callees has.callees) (number_fits 4 (length unit.code) unit.code code) in
-    let fits5 = IsBytes-cons unit.max_stack part6 (omega (arith, variables)) (number_fits 2 (length unit.callees) part7 fits7) in
-    let fits4 = IsBytes-append (places_bytes unit.locals) part5 (places_fit unit.locals (omega (arith, variables))) fits5 in
-    let fits3 = IsBytes-append (places_bytes unit.args) part4 (places_fit unit.args (omega (arith, variables))) fits4 in
+    let fits7 = IsBytes-append (flat_map (callee_bytes form) unit.callees) part8 (each_fits (callee_bytes form) IsCallee (callee_fits form) unit.callees has.callees) (number_fits 4 (length unit.code) unit.code code) in
+    let fits5 = number_fits (count_size form) unit.max_stack part6 (number_fits 2 (length unit.callees) part7 fits7) in
+    let fits4 = IsBytes-append (places_bytes form unit.locals) part5 (places_fit form unit.locals) fits5 in
+    let fits3 = IsBytes-append (places_bytes form unit.args) part4 (places_fit form unit.args) fits4 in
     let fits2 = IsBytes-cons (place_number unit.result) part3 (place_fits unit.result) fits3 in
-    IsBytes-append (codes "CCU1") part1 letters_fit (IsBytes-append (name_bytes unit.name) part2 (name_fits unit.name has.name) fits2)
+    IsBytes-append (magic form) part1 (letters_fit form) (IsBytes-append (name_bytes unit.name) part2 (name_fits unit.name has.name) fits2)
+
+pub unit_fits : (unit : MethodUnit) → HasFields unit → IsBytes unit.code → IsBytes (unit_bytes unit)
+unfolding unit_bytes
+unit_fits unit has code = spelling_fits Second unit has code

@@ -1,9 +1,9 @@
 -- What stands in a file from an offset on.
-use Rattle.std.proofs.Common.{◌≡◌, ℕ, ◌+◌, ◌^◌, ◌<◌, ◌≤◌, List, ◌∷◌, ◌++◌, length, take, drop, slice_index, refl, sym, ap, ◌∙◌, arith, length-append, length-drop, get_or-drop, drop-drop, drop_at}
+use Rattle.std.proofs.Common.{◌≡◌, ℕ, ◌+◌, ◌*◌, ◌^◌, ◌<◌, ◌≤◌, List, [], ◌∷◌, ◌++◌, length, take, drop, slice_index, refl, sym, ap, ◌∙◌, arith, length-append, length-drop, get_or-drop, drop-drop, drop_at}
 use Rattle.std.proofs.lemmas.List.{take-append-drop, drop_more}
 use Rattle.byteorder.specs.Endian.{little_number, little_bytes}
 use Rattle.cc_base.specs.LittleEndian.{IsBytes}
-use Rattle.cc_base.proofs.ByteLemmas.{IsBytes-drop, number_back, bytes_back-take}
+use Rattle.cc_base.proofs.ByteLemmas.{IsBytes-drop, little_bytes-suc, number_back, bytes_back-take}
 
 -- Behind a part that stands there the rest does.
 pub behind : (bytes : List ℕ) (at next : ℕ) (part rest : List ℕ) → drop at bytes ≡ part ++ rest → next ≡ at + length part → drop next bytes ≡ rest
@@ -24,6 +24,12 @@ pub byte_read : (bytes : List ℕ) (at b : ℕ) (rest : List ℕ) → drop at by
 byte_read bytes at b rest there =
     let place : at ≡ at + 0 = omega arith in
     ap (λ (k : ℕ). slice_index bytes k) place ∙ sym (get_or-drop at bytes 0 0) ∙ ap (λ (t : List ℕ). slice_index t 0) there
+
+-- One byte spells a number that is below 256.
+pub byte_of : (b : ℕ) → b < 256 → little_bytes 1 b ≡ b ∷ []
+byte_of b small =
+    let same : b ≡ b + 256 * 0 = omega arith in
+    ap (little_bytes 1) same ∙ little_bytes-suc 0 b 0 small
 
 -- So are numbers.
 

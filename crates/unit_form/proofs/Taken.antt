@@ -10,15 +10,19 @@ use Rattle.cc_base.specs.LittleEndian.{IsBytes, u16_at, u32_at}
 use Rattle.cc_base.specs.Tests.{first_of, must}
 use Rattle.cc_base.proofs.NumberLemmas.{u16_at-lt}
 use Rattle.cc_base.proofs.TestLemmas.{none_before, none_behind, none_here, must_hold}
+use Rattle.cil_model.specs.Limits.{MAX_VARIABLES}
 use Rattle.cil_model.specs.Places.{place_number, place_of_number}
 use Rattle.cil_model.specs.WellFormed.{HoldValues, IsUnitName}
 use Rattle.cil_model.specs.declared.place.Place.{Place}
 use Rattle.cil_model.specs.declared.place.Place.TheVariants as places
-use Rattle.unit_form.specs.Fields.{u8_field, u16_field, u32_field, bytes_field, is_graphic, graphic_tests, name_field, place_numbered, place_field, variable_field, variable_fields, variables_field}
+use Rattle.unit_form.specs.Fields.{count_field, u8_field, u16_field, u32_field, bytes_field, is_graphic, graphic_tests, name_field, place_numbered, place_field, variable_field, variable_fields, variables_field}
+use Rattle.unit_form.specs.Forms.{IsCount, count_bytes}
 use Rattle.unit_form.specs.Parses.{Parse, field, many}
 use Rattle.unit_form.specs.Spelling.{name_bytes, places_bytes}
 use Rattle.unit_form.specs.declared.field_fault.FieldFault.{FieldFault}
-use Rattle.unit_form.proofs.Stands.{byte_stands, number_stands}
+use Rattle.unit_form.specs.declared.form.UnitForm.{UnitForm}
+use Rattle.unit_form.specs.declared.form.UnitForm.TheVariants.{First, Second}
+use Rattle.unit_form.proofs.Stands.{byte_of, byte_stands, number_stands}
 use Rattle.unit_form.proofs.Counted.{length-many}
 
 -- What was read is spelled so where it stands.
@@ -46,6 +50,23 @@ pub u32_taken : (bytes : List ℕ) (at : ℕ) → IsBytes bytes → first_of (u3
 unfolding u32_field u32_at
 u32_taken bytes at fits passed = record { there = number_stands 4 bytes at _ fits (field_lies bytes at 4 (none_here _ [] passed)) refl }
 
+pub u16_small : (bytes : List ℕ) (at : ℕ) → IsBytes bytes → (u16_field bytes at).value < 2 ^ 16
+unfolding u16_field
+u16_small bytes at fits = u16_at-lt bytes at fits
+
+pub count_small : (form : UnitForm) (bytes : List ℕ) (at : ℕ) → IsBytes bytes → IsCount form (count_field form bytes at).value
+unfolding count_field u8_field
+count_small First bytes at fits = fits at
+count_small Second bytes at fits = u16_small bytes at fits
+
+pub count_taken : (form : UnitForm) (bytes : List ℕ) (at : ℕ) → IsBytes bytes → first_of (count_field form bytes at).tests ≡ None
+    → Stands bytes at (count_field form bytes at) (count_bytes form (count_field form bytes at).value)
+unfolding count_field
+count_taken First bytes at fits passed =
+    let count = u8_field bytes at in
+    record { there = (u8_taken bytes at passed).there ∙ ap (λ (t : List ℕ). t ++ drop count.next bytes) (sym (byte_of count.value (count_small First bytes at fits))) }
+count_taken Second bytes at fits passed = record { there = (u16_taken bytes at fits passed).there }
+
 pub bytes_taken : (count : ℕ) (bytes : List ℕ) (at : ℕ) → Stands bytes at (bytes_field count bytes at) (bytes_field count bytes at).value
 unfolding bytes_field
 bytes_taken count bytes at =
@@ -69,10 +90,6 @@ graphic at [] passed = tt
 graphic at (b ∷ text) passed =
     let here = both_true _ _ (holds _ _ (none_here (must (is_graphic b) _) (graphic_tests (at + 1) text) passed)) in
     ((leb-true _ _ here.0, leb-true _ _ here.1), graphic (at + 1) text (none_behind (must (is_graphic b) _ ∷ []) (graphic_tests (at + 1) text) passed))
-
-pub u16_small : (bytes : List ℕ) (at : ℕ) → IsBytes bytes → (u16_field bytes at).value < 2 ^ 16
-unfolding u16_field
-u16_small bytes at fits = u16_at-lt bytes at fits
 
 pub record NameTaken (bytes : List ℕ) (at : ℕ) : Type 0 where
   pub stands : Stands bytes at (name_field bytes at) (name_bytes (name_field bytes at).value)
@@ -167,10 +184,11 @@ many_taken bytes one spell Good each (suc count) read at passed =
 
 -- ---- variables
 
-pub record VariablesTaken (others : ℕ) (bytes : List ℕ) (at : ℕ) : Type 0 where
-  pub stands : Stands bytes at (variables_field others bytes at) (places_bytes (variables_field others bytes at).value)
-  pub hold : HoldValues (variables_field others bytes at).value
-  pub few : others + length (variables_field others bytes at).value ≤ 128
+pub record VariablesTaken (form : UnitForm) (others : ℕ) (bytes : List ℕ) (at : ℕ) : Type 0 where
+  pub stands : Stands bytes at (variables_field form others bytes at) (places_bytes form (variables_field form others bytes at).value)
+  pub hold : HoldValues (variables_field form others bytes at).value
+  pub few : others + length (variables_field form others bytes at).value ≤ MAX_VARIABLES
+  pub count : IsCount form (length (variables_field form others bytes at).value)
 
 all_hold : (read variables : List Place) → AllGood (λ before place. place ≢ places.Void) read variables → HoldValues variables
 all_hold read [] good = tt
@@ -180,22 +198,24 @@ pub one_each : (variables : List Place) → flat_map (λ place. place_number pla
 one_each [] = refl
 one_each (place ∷ others) = ap (λ (t : List ℕ). place_number place ∷ t) (one_each others)
 
-pub variables_taken : (others : ℕ) (bytes : List ℕ) (at : ℕ) → first_of (variables_field others bytes at).tests ≡ None → VariablesTaken others bytes at
+pub variables_taken : (form : UnitForm) (others : ℕ) (bytes : List ℕ) (at : ℕ) → IsBytes bytes → first_of (variables_field form others bytes at).tests ≡ None → VariablesTaken form others bytes at
 unfolding variables_field
-variables_taken others bytes at passed =
-    let count = u8_field bytes at in
+variables_taken form others bytes at fits passed =
+    let count = count_field form bytes at in
     let variables = variable_fields count.value bytes count.next in
     let one = none_before count.tests _ passed in
-    let rest = none_behind count.tests (must (nat_le (others + count.value) 128) _ ∷ variables.tests) passed in
+    let rest = none_behind count.tests (must (nat_le (others + count.value) MAX_VARIABLES) _ ∷ variables.tests) passed in
     let two = none_here _ variables.tests rest in
-    let three = none_behind (must (nat_le (others + count.value) 128) _ ∷ []) variables.tests rest in
+    let three = none_behind (must (nat_le (others + count.value) MAX_VARIABLES) _ ∷ []) variables.tests rest in
     let all = many_taken bytes (λ read. variable_field bytes) (λ place. place_number place ∷ []) (λ before place. place ≢ places.Void) (λ read at passed. let taken = variable_taken bytes at passed in (taken.stands, taken.value)) count.value [] count.next three in
     let size = length-many (λ (read : List Place). variable_field bytes) [] count.value count.next in
     record {
       stands = record {
-        there = (u8_taken bytes at one).there ∙ ap (λ (n : ℕ). n ∷ drop count.next bytes) (sym size)
-            ∙ ap (λ (t : List ℕ). length variables.value ∷ t) (all.0.there ∙ ap (λ (t : List ℕ). t ++ drop variables.next bytes) (one_each variables.value));
+        there = (count_taken form bytes at fits one).there ∙ ap (λ (n : ℕ). count_bytes form n ++ drop count.next bytes) (sym size)
+            ∙ ap (λ (t : List ℕ). count_bytes form (length variables.value) ++ t) (all.0.there ∙ ap (λ (t : List ℕ). t ++ drop variables.next bytes) (one_each variables.value))
+            ∙ sym (append_assoc (count_bytes form (length variables.value)) (map place_number variables.value) (drop variables.next bytes));
       };
       hold = all_hold [] variables.value all.1;
       few = omega (arith, size, leb-true _ _ (holds _ _ two));
+      count = rw size (count_small form bytes at fits);
     }

@@ -22,8 +22,11 @@ use Rattle.cil_model.specs.declared.instruction.UnOp.TheVariants as unary
 use Rattle.cil_model.specs.declared.place.Place.{Place}
 use Rattle.cil_model.specs.declared.place.Place.TheVariants as places
 use Rattle.unit_form.specs.Fields.{u8_field, bytes_field}
+use Rattle.unit_form.specs.Forms.{count_bytes, count_size}
 use Rattle.unit_form.specs.TreeFields.{arity, is_tag, operand_field, operand_size, operator_of_byte, root_field, root_of, roots_field, tree_roots, unary_of_byte}
 use Rattle.unit_form.specs.TreeSpelling.{operator_byte, root_bytes, tree_bytes, unary_byte}
+use Rattle.unit_form.specs.declared.form.UnitForm.{UnitForm}
+use Rattle.unit_form.proofs.ArgsFit.{ArgFits, ArgsFit}
 use Rattle.unit_form.proofs.Again.{ReadsBack, bytes_again, one_test, test_before, u8_again}
 use Rattle.unit_form.proofs.WholeTrees.{Complete}
 
@@ -42,19 +45,19 @@ tag_of (UnRoot operator) = 8
 tag_of OldRoot = 9
 tag_of CondRoot = 10
 
-abbrev operand_of : Root → List ℕ
-operand_of (ConstRoot n) = little_bytes 4 (unsigned n)
-operand_of (ArgRoot n) = n ∷ []
-operand_of (ElemRoot place) = place_number place ∷ []
-operand_of (BinRoot operator) = operator_byte operator ∷ []
-operand_of (UnRoot operator) = unary_byte operator ∷ []
-operand_of root = []
+abbrev operand_of : UnitForm → Root → List ℕ
+operand_of form (ConstRoot n) = little_bytes 4 (unsigned n)
+operand_of form (ArgRoot n) = count_bytes form n
+operand_of form (ElemRoot place) = place_number place ∷ []
+operand_of form (BinRoot operator) = operator_byte operator ∷ []
+operand_of form (UnRoot operator) = unary_byte operator ∷ []
+operand_of form root = []
 
-record RootAgain (root : Root) : Type 0 where
-  bytes : root_bytes root ≡ tag_of root ∷ operand_of root
+record RootAgain (form : UnitForm) (root : Root) : Type 0 where
+  bytes : root_bytes form root ≡ tag_of root ∷ operand_of form root
   tag : is_tag (tag_of root) ≡ true
-  size : operand_size (tag_of root) ≡ length (operand_of root)
-  found : root_of (tag_of root) (operand_of root) ≡ Some root
+  size : operand_size form (tag_of root) ≡ length (operand_of form root)
+  found : root_of form (tag_of root) (operand_of form root) ≡ Some root
 
 operator_found : (operator : BinOp) → operator_of_byte (operator_byte operator) ≡ Some operator
 operator_found operators.Add = refl
@@ -93,28 +96,31 @@ unary_found unary.Not = refl
 unsigned_small : (n : ℤ) → FitsSigned w32 n → unsigned n < 256 ^ 4
 unsigned_small n fits = Fits-lt-pow {w = w32} {n = unsigned n} (Fits-of_z {w = w32} {z = n} fits)
 
-root_facts : (root : Root) → IsIntRoot root → RootAgain root
-root_facts (ConstRoot n) fits =
+root_facts : (form : UnitForm) (root : Root) → IsIntRoot root → ArgFits form root → RootAgain form root
+root_facts form (ConstRoot n) fits small =
     let back : little_number 4 (little_bytes 4 (unsigned n)) ≡ unsigned n =
     ap (little_number 4) (sym (append-nil (little_bytes 4 (unsigned n)))) ∙ number_back 4 (unsigned n) [] (unsigned_small n fits) in
     record { bytes = refl; tag = refl; size = sym (length-little_bytes 4 (unsigned n)); found = ap (λ (k : ℕ). Some (ConstRoot (signed k))) back ∙ ap (λ (m : ℤ). Some (ConstRoot m)) (to_z-of_z w32 n fits) }
-root_facts (ArgRoot n) fits = record { bytes = refl; tag = refl; size = refl; found = refl }
-root_facts NullRoot fits = record { bytes = refl; tag = refl; size = refl; found = refl }
-root_facts ResultRoot fits = record { bytes = refl; tag = refl; size = refl; found = refl }
-root_facts LenRoot fits = record { bytes = refl; tag = refl; size = refl; found = refl }
-root_facts (ElemRoot place) fits = record { bytes = refl; tag = refl; size = refl; found = ap (option_map ElemRoot) (place_found place) }
-root_facts (BinRoot operator) fits = record { bytes = refl; tag = refl; size = refl; found = ap (option_map BinRoot) (operator_found operator) }
-root_facts (UnRoot operator) fits = record { bytes = refl; tag = refl; size = refl; found = ap (option_map UnRoot) (unary_found operator) }
-root_facts OldRoot fits = record { bytes = refl; tag = refl; size = refl; found = refl }
-root_facts CondRoot fits = record { bytes = refl; tag = refl; size = refl; found = refl }
+root_facts form (ArgRoot n) fits small =
+    let back : little_number (count_size form) (count_bytes form n) ≡ n =
+    ap (little_number (count_size form)) (sym (append-nil (count_bytes form n))) ∙ number_back (count_size form) n [] small in
+    record { bytes = refl; tag = refl; size = sym (length-little_bytes (count_size form) n); found = ap (λ (k : ℕ). Some (ArgRoot k)) back }
+root_facts form NullRoot fits small = record { bytes = refl; tag = refl; size = refl; found = refl }
+root_facts form ResultRoot fits small = record { bytes = refl; tag = refl; size = refl; found = refl }
+root_facts form LenRoot fits small = record { bytes = refl; tag = refl; size = refl; found = refl }
+root_facts form (ElemRoot place) fits small = record { bytes = refl; tag = refl; size = refl; found = ap (option_map ElemRoot) (place_found place) }
+root_facts form (BinRoot operator) fits small = record { bytes = refl; tag = refl; size = refl; found = ap (option_map BinRoot) (operator_found operator) }
+root_facts form (UnRoot operator) fits small = record { bytes = refl; tag = refl; size = refl; found = ap (option_map UnRoot) (unary_found operator) }
+root_facts form OldRoot fits small = record { bytes = refl; tag = refl; size = refl; found = refl }
+root_facts form CondRoot fits small = record { bytes = refl; tag = refl; size = refl; found = refl }
 
-operand_again : (bytes : List ℕ) (at : ℕ) (root : Root) (rest : List ℕ) → RootAgain root → at ≤ length bytes → drop at bytes ≡ operand_of root ++ rest
-    → ReadsBack bytes (operand_field (tag_of root) bytes at) root rest
+operand_again : (form : UnitForm) (bytes : List ℕ) (at : ℕ) (root : Root) (rest : List ℕ) → RootAgain form root → at ≤ length bytes → drop at bytes ≡ operand_of form root ++ rest
+    → ReadsBack bytes (operand_field form (tag_of root) bytes at) root rest
 unfolding operand_field
-operand_again bytes at root rest facts before there =
-    let operand = bytes_field (operand_size (tag_of root)) bytes at in
-    let one = bytes_again bytes at (operand_size (tag_of root)) (operand_of root) rest facts.size before there in
-    let found : root_of (tag_of root) operand.value ≡ Some root = ap (root_of (tag_of root)) one.value ∙ facts.found in
+operand_again form bytes at root rest facts before there =
+    let operand = bytes_field (operand_size form (tag_of root)) bytes at in
+    let one = bytes_again bytes at (operand_size form (tag_of root)) (operand_of form root) rest facts.size before there in
+    let found : root_of form (tag_of root) operand.value ≡ Some root = ap (root_of form (tag_of root)) one.value ∙ facts.found in
     record {
       passed = first_of-append_none operand.tests _ one.passed ∙ one_test _ _ (ap is_some found);
       value = ap (λ it. option_map_or (λ root. root) it NullRoot) found;
@@ -122,15 +128,15 @@ operand_again bytes at root rest facts before there =
       inside = one.inside;
     }
 
-pub root_again : (bytes : List ℕ) (at : ℕ) (root : Root) (rest : List ℕ) → IsIntRoot root → drop at bytes ≡ root_bytes root ++ rest → ReadsBack bytes (root_field bytes at) root rest
+pub root_again : (form : UnitForm) (bytes : List ℕ) (at : ℕ) (root : Root) (rest : List ℕ) → IsIntRoot root → ArgFits form root → drop at bytes ≡ root_bytes form root ++ rest → ReadsBack bytes (root_field form bytes at) root rest
 unfolding root_field
-root_again bytes at root rest fits there =
-    let facts = root_facts root fits in
+root_again form bytes at root rest fits small there =
+    let facts = root_facts form root fits small in
     let tag = u8_field bytes at in
-    let one = u8_again bytes at (tag_of root) (operand_of root ++ rest) (there ∙ ap (λ (t : List ℕ). t ++ rest) facts.bytes) in
-    let two = operand_again bytes tag.next root rest facts one.inside one.behind in
-    let operand = operand_field tag.value bytes tag.next in
-    let same : operand ≡ operand_field (tag_of root) bytes tag.next = ap (λ (k : ℕ). operand_field k bytes tag.next) one.value in
+    let one = u8_again bytes at (tag_of root) (operand_of form root ++ rest) (there ∙ ap (λ (t : List ℕ). t ++ rest) facts.bytes) in
+    let two = operand_again form bytes tag.next root rest facts one.inside one.behind in
+    let operand = operand_field form tag.value bytes tag.next in
+    let same : operand ≡ operand_field form (tag_of root) bytes tag.next = ap (λ (k : ℕ). operand_field form k bytes tag.next) one.value in
     record {
       passed = first_of-append_none tag.tests _ one.passed ∙ test_before _ _ operand.tests (ap is_tag one.value ∙ facts.tag) (ap (λ parse. first_of parse.tests) same ∙ two.passed);
       value = ap (λ parse. parse.value) same ∙ two.value;
@@ -140,23 +146,23 @@ root_again bytes at root rest fits there =
 
 -- ---- all roots of a tree
 
-ended : (most : ℕ) (bytes : List ℕ) (at : ℕ) (rest : List ℕ) → at ≤ length bytes → drop at bytes ≡ rest → ReadsBack bytes (roots_field most 0 bytes at) [] rest
+ended : (form : UnitForm) (most : ℕ) (bytes : List ℕ) (at : ℕ) (rest : List ℕ) → at ≤ length bytes → drop at bytes ≡ rest → ReadsBack bytes (roots_field form most 0 bytes at) [] rest
 unfolding roots_field
-ended zero bytes at rest before there = record { passed = first_of-nil; value = refl; behind = there; inside = before }
-ended (suc most) bytes at rest before there = record { passed = first_of-nil; value = refl; behind = there; inside = before }
+ended form zero bytes at rest before there = record { passed = first_of-nil; value = refl; behind = there; inside = before }
+ended form (suc most) bytes at rest before there = record { passed = first_of-nil; value = refl; behind = there; inside = before }
 
-roots_again : (most trees : ℕ) (bytes : List ℕ) (at : ℕ) (roots : List Root) (rest : List ℕ) → Complete trees roots → AllByRecursion IsIntRoot roots → length roots ≤ most → at ≤ length bytes
-    → drop at bytes ≡ flat_map root_bytes roots ++ rest → ReadsBack bytes (roots_field most trees bytes at) roots rest
+roots_again : (form : UnitForm) (most trees : ℕ) (bytes : List ℕ) (at : ℕ) (roots : List Root) (rest : List ℕ) → Complete trees roots → AllByRecursion IsIntRoot roots → AllByRecursion (ArgFits form) roots → length roots ≤ most → at ≤ length bytes
+    → drop at bytes ≡ flat_map (root_bytes form) roots ++ rest → ReadsBack bytes (roots_field form most trees bytes at) roots rest
 unfolding roots_field
-roots_again most trees bytes at [] rest e ints few before there = subst (λ n. ReadsBack bytes (roots_field most n bytes at) [] rest) (sym e) (ended most bytes at rest before there)
-roots_again zero trees bytes at (root ∷ roots) rest whole ints few before there = absurd (omega (arith, few))
-roots_again (suc most) trees bytes at (root ∷ roots) rest (others, e, whole) ints few before there =
-    let first = root_field bytes at in
-    let here = root_again bytes at root (flat_map root_bytes roots ++ rest) ints.0 (there ∙ append_assoc (root_bytes root) (flat_map root_bytes roots) rest) in
-    let later = roots_again most (arity root + others) bytes first.next roots rest whole ints.1 (omega (arith, few)) here.inside here.behind in
-    let left = roots_field most (arity first.value + others) bytes first.next in
-    let same : left ≡ roots_field most (arity root + others) bytes first.next = ap (λ r. roots_field most (arity r + others) bytes first.next) here.value in
-    subst (λ n. ReadsBack bytes (roots_field (suc most) n bytes at) (root ∷ roots) rest) (sym e) (record {
+roots_again form most trees bytes at [] rest e ints args few before there = subst (λ n. ReadsBack bytes (roots_field form most n bytes at) [] rest) (sym e) (ended form most bytes at rest before there)
+roots_again form zero trees bytes at (root ∷ roots) rest whole ints args few before there = absurd (omega (arith, few))
+roots_again form (suc most) trees bytes at (root ∷ roots) rest (others, e, whole) ints args few before there =
+    let first = root_field form bytes at in
+    let here = root_again form bytes at root (flat_map (root_bytes form) roots ++ rest) ints.0 args.0 (there ∙ append_assoc (root_bytes form root) (flat_map (root_bytes form) roots) rest) in
+    let later = roots_again form most (arity root + others) bytes first.next roots rest whole ints.1 args.1 (omega (arith, few)) here.inside here.behind in
+    let left = roots_field form most (arity first.value + others) bytes first.next in
+    let same : left ≡ roots_field form most (arity root + others) bytes first.next = ap (λ r. roots_field form most (arity r + others) bytes first.next) here.value in
+    subst (λ n. ReadsBack bytes (roots_field form (suc most) n bytes at) (root ∷ roots) rest) (sym e) (record {
       passed = first_of-append_none first.tests left.tests here.passed ∙ ap (λ parse. first_of parse.tests) same ∙ later.passed;
       value = ap (λ parse. first.value ∷ parse.value) same ∙ ap (λ rs. first.value ∷ rs) later.value ∙ ap (λ r. r ∷ roots) here.value;
       behind = ap (λ parse. drop parse.next bytes) same ∙ later.behind;
@@ -198,26 +204,26 @@ complete (Cond a b c) trees roots whole =
 complete_one : (tree : Term) → Complete 1 (preorder tree)
 complete_one tree = subst (λ rs. Complete 1 rs) (append-nil (preorder tree)) (complete tree 0 [] refl)
 
-some_bytes : (root : Root) → 1 ≤ length (root_bytes root)
-some_bytes (ConstRoot n) = omega arith
-some_bytes (ArgRoot n) = omega arith
-some_bytes NullRoot = omega arith
-some_bytes ResultRoot = omega arith
-some_bytes LenRoot = omega arith
-some_bytes (ElemRoot place) = omega arith
-some_bytes (BinRoot operator) = omega arith
-some_bytes (UnRoot operator) = omega arith
-some_bytes OldRoot = omega arith
-some_bytes CondRoot = omega arith
+some_bytes : (form : UnitForm) (root : Root) → 1 ≤ length (root_bytes form root)
+some_bytes form (ConstRoot n) = omega arith
+some_bytes form (ArgRoot n) = omega arith
+some_bytes form NullRoot = omega arith
+some_bytes form ResultRoot = omega arith
+some_bytes form LenRoot = omega arith
+some_bytes form (ElemRoot place) = omega arith
+some_bytes form (BinRoot operator) = omega arith
+some_bytes form (UnRoot operator) = omega arith
+some_bytes form OldRoot = omega arith
+some_bytes form CondRoot = omega arith
 
 -- Each root has a byte.
-a_byte_each : (roots : List Root) → length roots ≤ length (flat_map root_bytes roots)
-a_byte_each [] = omega arith
-a_byte_each (root ∷ roots) = omega (arith, a_byte_each roots, some_bytes root, length-append (root_bytes root) (flat_map root_bytes roots))
+a_byte_each : (form : UnitForm) (roots : List Root) → length roots ≤ length (flat_map (root_bytes form) roots)
+a_byte_each form [] = omega arith
+a_byte_each form (root ∷ roots) = omega (arith, a_byte_each form roots, some_bytes form root, length-append (root_bytes form root) (flat_map (root_bytes form) roots))
 
-pub tree_again : (bytes : List ℕ) (at : ℕ) (tree : Term) (rest : List ℕ) → AllByRecursion IsIntRoot (preorder tree) → at ≤ length bytes → drop at bytes ≡ tree_bytes tree ++ rest
-    → ReadsBack bytes (tree_roots bytes at) (preorder tree) rest
+pub tree_again : (form : UnitForm) (bytes : List ℕ) (at : ℕ) (tree : Term) (rest : List ℕ) → AllByRecursion IsIntRoot (preorder tree) → ArgsFit form tree → at ≤ length bytes → drop at bytes ≡ tree_bytes form tree ++ rest
+    → ReadsBack bytes (tree_roots form bytes at) (preorder tree) rest
 unfolding tree_roots
-tree_again bytes at tree rest ints before there =
-    roots_again (length bytes) 1 bytes at (preorder tree) rest (complete_one tree) ints
-    (omega (arith, a_byte_each (preorder tree), ap length there, length-append (tree_bytes tree) rest, length-drop at bytes)) before there
+tree_again form bytes at tree rest ints args before there =
+    roots_again form (length bytes) 1 bytes at (preorder tree) rest (complete_one tree) ints args
+    (omega (arith, a_byte_each form (preorder tree), ap length there, length-append (tree_bytes form tree) rest, length-drop at bytes)) before there

@@ -8,6 +8,7 @@ use Rattle.cil_model.specs.TermCodes.{Root, ConstRoot, ArgRoot, NullRoot, Result
 use Rattle.cil_model.specs.Terms.{Term, Const, Arg, Null, Result, Len, Elem, Bin, Un, Old, Cond, term_size}
 use Rattle.unit_form.specs.declared.field_fault.FieldFault.TheVariants.{Short}
 use Rattle.unit_form.specs.TreeFields.{arity, root_field, roots_field, tree_of_roots, tree_roots}
+use Rattle.unit_form.specs.declared.form.UnitForm.{UnitForm}
 
 -- These are the roots of so many trees, one after another.
 abbrev pub Complete : ℕ → List Root → Type 0
@@ -17,13 +18,13 @@ Complete trees (root ∷ roots) = (others : ℕ) × (trees ≡ suc others) × Co
 pub no_fault : {F : Type 0} {fault : F} → Some fault ≡ None → ⊥
 no_fault e = absurd (cc)
 
-pub read_complete : (most trees : ℕ) (bytes : List ℕ) (at : ℕ) → first_of (roots_field most trees bytes at).tests ≡ None → Complete trees (roots_field most trees bytes at).value
+pub read_complete : (form : UnitForm) (most trees : ℕ) (bytes : List ℕ) (at : ℕ) → first_of (roots_field form most trees bytes at).tests ≡ None → Complete trees (roots_field form most trees bytes at).value
 unfolding roots_field
-read_complete zero zero bytes at passed = refl
-read_complete (suc most) zero bytes at passed = refl
-read_complete zero (suc trees) bytes at passed = absurd (no_fault (sym (first_of-one (Some (Short at))) ∙ passed))
-read_complete (suc most) (suc trees) bytes at passed =
-    (trees, refl, read_complete most (arity (root_field bytes at).value + trees) bytes (root_field bytes at).next (none_behind (root_field bytes at).tests (roots_field most (arity (root_field bytes at).value + trees) bytes (root_field bytes at).next).tests passed))
+read_complete form zero zero bytes at passed = refl
+read_complete form (suc most) zero bytes at passed = refl
+read_complete form zero (suc trees) bytes at passed = absurd (no_fault (sym (first_of-one (Some (Short at))) ∙ passed))
+read_complete form (suc most) (suc trees) bytes at passed =
+    (trees, refl, read_complete form most (arity (root_field form bytes at).value + trees) bytes (root_field form bytes at).next (none_behind (root_field form bytes at).tests (roots_field form most (arity (root_field form bytes at).value + trees) bytes (root_field form bytes at).next).tests passed))
 
 -- So many trees have these roots.
 pub record TreesOf (count : ℕ) (roots : List Root) : Type 0 where
@@ -78,10 +79,10 @@ one_of roots (tree ∷ []) e same =
     record { tree = tree; same = sym (append-nil (preorder tree)) ∙ same; is = ap (λ roots. first_term (terms_of roots)) (sym same) ∙ ap first_term (terms_of-preorder tree []) }
 one_of roots (tree ∷ other ∷ trees) e same = absurd (omega (arith, e))
 
-pub one_tree : (bytes : List ℕ) (at : ℕ) → first_of (tree_roots bytes at).tests ≡ None → OneTree (tree_roots bytes at).value
+pub one_tree : (form : UnitForm) (bytes : List ℕ) (at : ℕ) → first_of (tree_roots form bytes at).tests ≡ None → OneTree (tree_roots form bytes at).value
 unfolding tree_roots
-one_tree bytes at passed =
-    let whole = whole_trees 1 _ (read_complete (length bytes) 1 bytes at passed) in
+one_tree form bytes at passed =
+    let whole = whole_trees 1 _ (read_complete form (length bytes) 1 bytes at passed) in
     one_of _ whole.trees whole.many whole.same
 
 pub length-preorder : (t : Term) → length (preorder t) ≡ term_size t

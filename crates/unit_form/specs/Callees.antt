@@ -16,6 +16,7 @@ use Rattle.unit_form.specs.Fields.{name_field, place_field, u8_field, variables_
 use Rattle.unit_form.specs.Parses.{Parse, many}
 use Rattle.unit_form.specs.TreeFields.{tree_of_roots, tree_roots}
 use Rattle.unit_form.specs.declared.field_fault.FieldFault.TheVariants.{Form}
+use Rattle.unit_form.specs.declared.form.UnitForm.{UnitForm}
 
 -- ---- clauses
 
@@ -48,9 +49,9 @@ kept_tree args result kind olds roots =
     else if is_clause_tree args result kind olds (tree_of_roots roots) then Some (tree_of_roots roots) else None
 
 -- The tree of a clause, which is read to its end before it is judged.
-unfoldable pub clause_tree : List Place → Place → ClauseKind → ℕ → List ℕ → ℕ → Parse Term
-clause_tree args result kind olds bytes at =
-    let roots = tree_roots bytes at in
+unfoldable pub clause_tree : UnitForm → List Place → Place → ClauseKind → ℕ → List ℕ → ℕ → Parse Term
+clause_tree form args result kind olds bytes at =
+    let roots = tree_roots form bytes at in
     let tree = tree_of_roots roots.value in
     record { tests = roots.tests ++ (must (is_clause_tree args result kind olds tree) (Form at) ∷ []); value = tree; next = roots.next }
 
@@ -58,10 +59,10 @@ abbrev pub is_kind_number : ℕ → Bool
 is_kind_number number = number == 1 || number == 2
 
 -- A clause: the number of its kind, and its tree.
-unfoldable pub clause_field : List Place → Place → ℕ → List ℕ → ℕ → Parse Clause
-clause_field args result olds bytes at =
+unfoldable pub clause_field : UnitForm → List Place → Place → ℕ → List ℕ → ℕ → Parse Clause
+clause_field form args result olds bytes at =
     let number = u8_field bytes at in
-    let tree = clause_tree args result (kind_numbered number.value) olds bytes number.next in
+    let tree = clause_tree form args result (kind_numbered number.value) olds bytes number.next in
     record {
       tests = number.tests ++ (must (is_kind_number number.value) (Form at) ∷ tree.tests);
       value = record { kind = kind_numbered number.value; tree = tree.value };
@@ -73,29 +74,29 @@ abbrev pub olds_in : List Clause → ℕ
 olds_in clauses = sum_by (λ clause. old_count clause.tree) clauses
 
 -- The clause after these.
-abbrev pub next_clause : List Place → Place → List ℕ → List Clause → ℕ → Parse Clause
-next_clause args result bytes clauses at = clause_field args result (olds_in clauses) bytes at
+abbrev pub next_clause : UnitForm → List Place → Place → List ℕ → List Clause → ℕ → Parse Clause
+next_clause form args result bytes clauses at = clause_field form args result (olds_in clauses) bytes at
 
 -- So many clauses.
-abbrev pub clause_fields : ℕ → List Place → Place → List ℕ → ℕ → Parse (List Clause)
-clause_fields count args result bytes at = many (next_clause args result bytes) [] count at
+abbrev pub clause_fields : UnitForm → ℕ → List Place → Place → List ℕ → ℕ → Parse (List Clause)
+clause_fields form count args result bytes at = many (next_clause form args result bytes) [] count at
 
 -- The clauses of a method, after their count.
-unfoldable pub clauses_field : List Place → Place → List ℕ → ℕ → Parse (List Clause)
-clauses_field args result bytes at =
+unfoldable pub clauses_field : UnitForm → List Place → Place → List ℕ → ℕ → Parse (List Clause)
+clauses_field form args result bytes at =
     let count = u8_field bytes at in
-    let clauses = clause_fields count.value args result bytes count.next in
+    let clauses = clause_fields form count.value args result bytes count.next in
     record { tests = count.tests ++ (must (nat_le count.value MAX_CLAUSES) (Form at) ∷ clauses.tests); value = clauses.value; next = clauses.next }
 
 -- ---- callees
 
 -- A callee: its name, its result, its arguments and its clauses.
-unfoldable pub callee_field : List ℕ → ℕ → Parse CalleeInfo
-callee_field bytes at =
+unfoldable pub callee_field : UnitForm → List ℕ → ℕ → Parse CalleeInfo
+callee_field form bytes at =
     let name = name_field bytes at in
     let result = place_field bytes name.next in
-    let args = variables_field 0 bytes result.next in
-    let clauses = clauses_field args.value result.value bytes args.next in
+    let args = variables_field form 0 bytes result.next in
+    let clauses = clauses_field form args.value result.value bytes args.next in
     record {
       tests = name.tests ++ (result.tests ++ (args.tests ++ clauses.tests));
       value = record { name = name.value; result = result.value; args = args.value; clauses = clauses.value };
@@ -103,14 +104,14 @@ callee_field bytes at =
     }
 
 -- The callee after these.
-abbrev pub next_callee : List ℕ → List CalleeInfo → ℕ → Parse CalleeInfo
-next_callee bytes callees at = callee_field bytes at
+abbrev pub next_callee : UnitForm → List ℕ → List CalleeInfo → ℕ → Parse CalleeInfo
+next_callee form bytes callees at = callee_field form bytes at
 
 -- So many callees.
-abbrev pub callee_fields : ℕ → List ℕ → ℕ → Parse (List CalleeInfo)
-callee_fields count bytes at = many (next_callee bytes) [] count at
+abbrev pub callee_fields : UnitForm → ℕ → List ℕ → ℕ → Parse (List CalleeInfo)
+callee_fields form count bytes at = many (next_callee form bytes) [] count at
 
 -- The offsets at which so many callees begin.
-unfoldable pub callee_offsets : ℕ → List ℕ → ℕ → List ℕ
-callee_offsets zero bytes at = []
-callee_offsets (suc count) bytes at = at ∷ callee_offsets count bytes (callee_field bytes at).next
+unfoldable pub callee_offsets : UnitForm → ℕ → List ℕ → ℕ → List ℕ
+callee_offsets form zero bytes at = []
+callee_offsets form (suc count) bytes at = at ∷ callee_offsets form count bytes (callee_field form bytes at).next

@@ -10,6 +10,8 @@ use Rattle.cil_model.specs.declared.place.Place.TheVariants as places
 use Rattle.unit_form.specs.Parses.{Parse, field, many}
 use Rattle.unit_form.specs.declared.field_fault.FieldFault.{FieldFault}
 use Rattle.unit_form.specs.declared.field_fault.FieldFault.TheVariants.{Form}
+use Rattle.unit_form.specs.declared.form.UnitForm.{UnitForm}
+use Rattle.unit_form.specs.declared.form.UnitForm.TheVariants.{First, Second}
 
 -- ---- numbers
 
@@ -21,6 +23,11 @@ u16_field bytes at = record { tests = field bytes at 2 ∷ []; value = u16_at by
 
 unfoldable pub u32_field : List ℕ → ℕ → Parse ℕ
 u32_field bytes at = record { tests = field bytes at 4 ∷ []; value = u32_at bytes at; next = at + 4 }
+
+-- A count, in the size that it has in a form.
+unfoldable pub count_field : UnitForm → List ℕ → ℕ → Parse ℕ
+count_field First bytes at = u8_field bytes at
+count_field Second bytes at = u16_field bytes at
 
 -- So many bytes, as one field.
 unfoldable pub bytes_field : ℕ → List ℕ → ℕ → Parse (List ℕ)
@@ -67,8 +74,8 @@ abbrev pub variable_fields : ℕ → List ℕ → ℕ → Parse (List Place)
 variable_fields count bytes at = many (λ read. variable_field bytes) [] count at
 
 -- The places of variables, after their count. With so many others they keep the limit on the variables of a method.
-unfoldable pub variables_field : ℕ → List ℕ → ℕ → Parse (List Place)
-variables_field others bytes at =
-    let count = u8_field bytes at in
+unfoldable pub variables_field : UnitForm → ℕ → List ℕ → ℕ → Parse (List Place)
+variables_field form others bytes at =
+    let count = count_field form bytes at in
     let variables = variable_fields count.value bytes count.next in
     record { tests = count.tests ++ (must (nat_le (others + count.value) MAX_VARIABLES) (Form at) ∷ variables.tests); value = variables.value; next = variables.next }

@@ -1,4 +1,5 @@
 pub mod Parses
+pub mod Forms
 pub mod Fields
 pub mod Roots
 pub mod TreeSpelling

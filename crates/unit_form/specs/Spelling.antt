@@ -1,5 +1,5 @@
 -- How the fields of a unit are spelled as a file, and which fields are spelled.
-use Rattle.std.specs.Prelude.{ℕ, ◌+◌, ◌≤◌, List, ◌∷◌, ◌++◌, length, map, codes}
+use Rattle.std.specs.Prelude.{◌≡◌, ℕ, ◌+◌, ◌≤◌, List, ◌∷◌, ◌++◌, length, map}
 use Rattle.std.specs.List.{flat_map, AllByRecursion}
 use Rattle.byteorder.specs.Endian.{little_bytes}
 use Rattle.cil_model.specs.Limits.{MAX_CODE_BYTES, MAX_VARIABLES}
@@ -10,31 +10,51 @@ use Rattle.cil_model.specs.declared.place.Place.{Place}
 use Rattle.cil_model.specs.declared.unit.CalleeInfo.{CalleeInfo}
 use Rattle.cil_model.specs.declared.unit.Unit.{Unit as MethodUnit}
 use Rattle.unit_form.specs.Callees.{kind_number}
-use Rattle.unit_form.specs.TreeSpelling.{ByteArgs, tree_bytes}
+use Rattle.unit_form.specs.Forms.{IsCount, count_bytes, magic}
+use Rattle.unit_form.specs.TreeSpelling.{tree_bytes}
+use Rattle.unit_form.specs.declared.form.UnitForm.{UnitForm}
+use Rattle.unit_form.specs.declared.form.UnitForm.TheVariants.{Second}
 
 -- A name, after its length.
 abbrev pub name_bytes : List ℕ → List ℕ
 name_bytes name = little_bytes 2 (length name) ++ name
 
 -- Places, after their count.
-abbrev pub places_bytes : List Place → List ℕ
-places_bytes places = length places ∷ map place_number places
+abbrev pub places_bytes : UnitForm → List Place → List ℕ
+places_bytes form places = count_bytes form (length places) ++ map place_number places
 
-abbrev pub clause_bytes : Clause → List ℕ
-clause_bytes clause = kind_number clause.kind ∷ tree_bytes clause.tree
+abbrev pub clause_bytes : UnitForm → Clause → List ℕ
+clause_bytes form clause = kind_number clause.kind ∷ tree_bytes form clause.tree
 
 -- Clauses, after their count.
-abbrev pub clauses_bytes : List Clause → List ℕ
-clauses_bytes clauses = length clauses ∷ flat_map clause_bytes clauses
+abbrev pub clauses_bytes : UnitForm → List Clause → List ℕ
+clauses_bytes form clauses = length clauses ∷ flat_map (clause_bytes form) clauses
 
-abbrev pub callee_bytes : CalleeInfo → List ℕ
-callee_bytes callee = name_bytes callee.name ++ (place_number callee.result ∷ (places_bytes callee.args ++ clauses_bytes callee.clauses))
+abbrev pub callee_bytes : UnitForm → CalleeInfo → List ℕ
+callee_bytes form callee = name_bytes callee.name ++ (place_number callee.result ∷ (places_bytes form callee.args ++ clauses_bytes form callee.clauses))
 
--- A unit as a file.
+-- A unit as a file of this form.
+unfoldable pub unit_spelling : UnitForm → MethodUnit → List ℕ
+unit_spelling form unit =
+    magic form ++ (name_bytes unit.name ++ (place_number unit.result ∷ (places_bytes form unit.args ++ (places_bytes form unit.locals ++ (count_bytes form unit.max_stack
+    ++ (little_bytes 2 (length unit.callees) ++ (flat_map (callee_bytes form) unit.callees ++ (little_bytes 4 (length unit.code) ++ unit.code))))))))
+
+-- The file that is written of a unit, and the key under which it is kept.
 unfoldable pub unit_bytes : MethodUnit → List ℕ
-unit_bytes unit =
-    codes "CCU1" ++ (name_bytes unit.name ++ (place_number unit.result ∷ (places_bytes unit.args ++ (places_bytes unit.locals ++ (unit.max_stack
-    ∷ (little_bytes 2 (length unit.callees) ++ (flat_map callee_bytes unit.callees ++ (little_bytes 4 (length unit.code) ++ unit.code))))))))
+unit_bytes unit = unit_spelling Second unit
+
+-- The counts of the unit, and the size of its stack, can be written in this form.
+pub record HasCounts (form : UnitForm) (unit : MethodUnit) : Type 0 where
+  pub args : IsCount form (length unit.args)
+  pub locals : IsCount form (length unit.locals)
+  pub max_stack : IsCount form unit.max_stack
+  pub callees : AllByRecursion (λ callee. IsCount form (length callee.args)) unit.callees
+
+-- The bytes spell the unit, in one of the forms.
+pub record IsSpelledBy (unit : MethodUnit) (bytes : List ℕ) : Type 0 where
+  pub form : UnitForm
+  pub counts : HasCounts form unit
+  pub same : unit_spelling form unit ≡ bytes
 
 -- Fields that a file may spell: names, places, callees and a code within the limits.
 pub record HasFields (unit : MethodUnit) : Type 0 where
@@ -45,7 +65,3 @@ pub record HasFields (unit : MethodUnit) : Type 0 where
   pub callees : AllByRecursion IsCallee unit.callees
   pub count : length unit.callees ≤ 65_535
   pub code : length unit.code ≤ MAX_CODE_BYTES
-
--- The arguments that a clause names are numbers of one byte.
-abbrev pub HasByteArgs : Clause → Type 0
-HasByteArgs clause = ByteArgs clause.tree

@@ -1,5 +1,5 @@
 -- Trees, as they are read from a unit file.
-use Rattle.std.specs.Prelude.{ℕ, zero, suc, ◌+◌, Bool, ◌==◌, ◌||◌, ◌&&◌, nat_le, nat_lt, is_some, List, [], ◌∷◌, ◌++◌, length, slice_index, Option, Some, None, option_map, if◌then◌else◌}
+use Rattle.std.specs.Prelude.{ℕ, zero, suc, ◌+◌, Bool, ◌==◌, ◌&&◌, nat_le, nat_lt, is_some, List, [], ◌∷◌, ◌++◌, length, slice_index, Option, Some, None, option_map, if◌then◌else◌}
 use Rattle.std.specs.Option.{option_map_or}
 use Rattle.cc_base.specs.LittleEndian.{little_number}
 use Rattle.cc_base.specs.Tests.{must}
@@ -12,8 +12,10 @@ use Rattle.cil_model.specs.declared.instruction.BinOp.TheVariants as operators
 use Rattle.cil_model.specs.declared.instruction.UnOp.{UnOp}
 use Rattle.cil_model.specs.declared.instruction.UnOp.TheVariants as unary
 use Rattle.unit_form.specs.Fields.{bytes_field, u8_field}
+use Rattle.unit_form.specs.Forms.{count_size}
 use Rattle.unit_form.specs.Parses.{Parse}
 use Rattle.unit_form.specs.declared.field_fault.FieldFault.TheVariants.{Short, Form}
+use Rattle.unit_form.specs.declared.form.UnitForm.{UnitForm}
 
 -- ---- operators
 
@@ -57,8 +59,8 @@ unary_of_byte b = if b == 0x65 then Some unary.Neg else if b == 0x66 then Some u
 -- ---- one root
 
 -- How many bytes the operand after a tag has.
-abbrev pub operand_size : ℕ → ℕ
-operand_size tag = if tag == 1 then 4 else if tag == 2 || (nat_le 6 tag && nat_le tag 8) then 1 else 0
+abbrev pub operand_size : UnitForm → ℕ → ℕ
+operand_size form tag = if tag == 1 then 4 else if tag == 2 then count_size form else if nat_le 6 tag && nat_le tag 8 then 1 else 0
 
 -- The root of a tag without an operand.
 abbrev pub bare_root : ℕ → Option Root
@@ -71,22 +73,22 @@ bare_root tag =
     else None
 
 -- The root of a tag with this operand, or none where the operand breaks the form.
-abbrev pub root_of : ℕ → List ℕ → Option Root
-root_of tag operand =
+abbrev pub root_of : UnitForm → ℕ → List ℕ → Option Root
+root_of form tag operand =
     if tag == 1 then Some (ConstRoot (signed (little_number 4 operand)))
-    else if tag == 2 then Some (ArgRoot (slice_index operand 0))
+    else if tag == 2 then Some (ArgRoot (little_number (count_size form) operand))
     else if tag == 6 then option_map ElemRoot (place_of_number (slice_index operand 0))
     else if tag == 7 then option_map BinRoot (operator_of_byte (slice_index operand 0))
     else if tag == 8 then option_map UnRoot (unary_of_byte (slice_index operand 0))
     else bare_root tag
 
 -- The operand after a tag, as a field of its own.
-unfoldable pub operand_field : ℕ → List ℕ → ℕ → Parse Root
-operand_field tag bytes at =
-    let operand = bytes_field (operand_size tag) bytes at in
+unfoldable pub operand_field : UnitForm → ℕ → List ℕ → ℕ → Parse Root
+operand_field form tag bytes at =
+    let operand = bytes_field (operand_size form tag) bytes at in
     record {
-      tests = operand.tests ++ (must (is_some (root_of tag operand.value)) (Form at) ∷ []);
-      value = option_map_or (λ found. found) (root_of tag operand.value) NullRoot;
+      tests = operand.tests ++ (must (is_some (root_of form tag operand.value)) (Form at) ∷ []);
+      value = option_map_or (λ found. found) (root_of form tag operand.value) NullRoot;
       next = operand.next;
     }
 
@@ -94,10 +96,10 @@ abbrev pub is_tag : ℕ → Bool
 is_tag tag = nat_le 1 tag && nat_le tag 10
 
 -- A root: its tag, and its operand.
-unfoldable pub root_field : List ℕ → ℕ → Parse Root
-root_field bytes at =
+unfoldable pub root_field : UnitForm → List ℕ → ℕ → Parse Root
+root_field form bytes at =
     let tag = u8_field bytes at in
-    let operand = operand_field tag.value bytes tag.next in
+    let operand = operand_field form tag.value bytes tag.next in
     record { tests = tag.tests ++ (must (is_tag tag.value) (Form at) ∷ operand.tests); value = operand.value; next = operand.next }
 
 -- How many trees stand below a root.
@@ -117,17 +119,17 @@ arity CondRoot = 3
 
 -- The roots of so many trees, where at most so many roots are read. Each has a byte, so that the last of as many roots
 -- as the file has bytes ends it.
-unfoldable pub roots_field : ℕ → ℕ → List ℕ → ℕ → Parse (List Root)
-roots_field most zero bytes at = record { tests = []; value = []; next = at }
-roots_field zero (suc trees) bytes at = record { tests = Some (Short at) ∷ []; value = []; next = at }
-roots_field (suc most) (suc trees) bytes at =
-    let first = root_field bytes at in
-    let others = roots_field most (arity first.value + trees) bytes first.next in
+unfoldable pub roots_field : UnitForm → ℕ → ℕ → List ℕ → ℕ → Parse (List Root)
+roots_field form most zero bytes at = record { tests = []; value = []; next = at }
+roots_field form zero (suc trees) bytes at = record { tests = Some (Short at) ∷ []; value = []; next = at }
+roots_field form (suc most) (suc trees) bytes at =
+    let first = root_field form bytes at in
+    let others = roots_field form most (arity first.value + trees) bytes first.next in
     record { tests = first.tests ++ others.tests; value = first.value ∷ others.value; next = others.next }
 
 -- The roots of one tree, in preorder.
-unfoldable pub tree_roots : List ℕ → ℕ → Parse (List Root)
-tree_roots bytes at = roots_field (length bytes) 1 bytes at
+unfoldable pub tree_roots : UnitForm → List ℕ → ℕ → Parse (List Root)
+tree_roots form bytes at = roots_field form (length bytes) 1 bytes at
 
 -- The tree of these roots.
 abbrev pub tree_of_roots : List Root → Term

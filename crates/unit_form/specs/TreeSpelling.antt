@@ -1,6 +1,6 @@
 -- How a tree is spelled in a unit file: the roots of it and of the trees below it, in preorder.
-use Rattle.std.specs.Prelude.{ℕ, ◌<◌, List, [], ◌∷◌}
-use Rattle.std.specs.List.{flat_map, AllByRecursion}
+use Rattle.std.specs.Prelude.{ℕ, List, [], ◌∷◌}
+use Rattle.std.specs.List.{flat_map}
 use Rattle.byteorder.specs.Endian.{little_bytes}
 use Rattle.cil_model.specs.Arithmetic.{unsigned}
 use Rattle.cil_model.specs.Places.{place_number}
@@ -10,6 +10,8 @@ use Rattle.cil_model.specs.declared.instruction.BinOp.{BinOp}
 use Rattle.cil_model.specs.declared.instruction.BinOp.TheVariants as operators
 use Rattle.cil_model.specs.declared.instruction.UnOp.{UnOp}
 use Rattle.cil_model.specs.declared.instruction.UnOp.TheVariants as unary
+use Rattle.unit_form.specs.Forms.{count_bytes}
+use Rattle.unit_form.specs.declared.form.UnitForm.{UnitForm}
 
 -- The byte of an operator: its opcode (ECMA-335 III.3), and for a comparison C0 and the second byte of its opcode.
 abbrev pub operator_byte : BinOp → ℕ
@@ -40,25 +42,17 @@ unary_byte unary.Neg = 0x65
 unary_byte unary.Not = 0x66
 
 -- The bytes of a root: its tag, and then its operand.
-abbrev pub root_bytes : Root → List ℕ
-root_bytes (ConstRoot n) = 1 ∷ little_bytes 4 (unsigned n)
-root_bytes (ArgRoot n) = 2 ∷ n ∷ []
-root_bytes NullRoot = 3 ∷ []
-root_bytes ResultRoot = 4 ∷ []
-root_bytes LenRoot = 5 ∷ []
-root_bytes (ElemRoot place) = 6 ∷ place_number place ∷ []
-root_bytes (BinRoot operator) = 7 ∷ operator_byte operator ∷ []
-root_bytes (UnRoot operator) = 8 ∷ unary_byte operator ∷ []
-root_bytes OldRoot = 9 ∷ []
-root_bytes CondRoot = 10 ∷ []
+abbrev pub root_bytes : UnitForm → Root → List ℕ
+root_bytes form (ConstRoot n) = 1 ∷ little_bytes 4 (unsigned n)
+root_bytes form (ArgRoot n) = 2 ∷ count_bytes form n
+root_bytes form NullRoot = 3 ∷ []
+root_bytes form ResultRoot = 4 ∷ []
+root_bytes form LenRoot = 5 ∷ []
+root_bytes form (ElemRoot place) = 6 ∷ place_number place ∷ []
+root_bytes form (BinRoot operator) = 7 ∷ operator_byte operator ∷ []
+root_bytes form (UnRoot operator) = 8 ∷ unary_byte operator ∷ []
+root_bytes form OldRoot = 9 ∷ []
+root_bytes form CondRoot = 10 ∷ []
 
-abbrev pub tree_bytes : Term → List ℕ
-tree_bytes tree = flat_map root_bytes (preorder tree)
-
--- The arguments that a tree names are numbers of one byte.
-abbrev pub IsByteArg : Root → Type 0
-IsByteArg (ArgRoot n) = n < 256
-IsByteArg root = Unit {0}
-
-abbrev pub ByteArgs : Term → Type 0
-ByteArgs tree = AllByRecursion IsByteArg (preorder tree)
+abbrev pub tree_bytes : UnitForm → Term → List ℕ
+tree_bytes form tree = flat_map (root_bytes form) (preorder tree)

@@ -5,10 +5,12 @@ use Rattle.cil_model.specs.Limits.{MAX_CODE_BYTES, MAX_VARIABLES}
 use Rattle.cil_model.specs.declared.place.Place.{Place}
 use Rattle.cil_model.specs.declared.unit.CalleeInfo.{CalleeInfo}
 use Rattle.unit_form.specs.Callees.{callee_fields, callee_offsets}
-use Rattle.unit_form.specs.Fields.{bytes_field, name_field, place_field, u16_field, u32_field, u8_field, variables_field}
+use Rattle.unit_form.specs.Fields.{bytes_field, count_field, name_field, place_field, u16_field, u32_field, variables_field}
+use Rattle.unit_form.specs.Forms.{form_of, is_form_number}
 use Rattle.unit_form.specs.Parses.{Parse, field}
 use Rattle.unit_form.specs.declared.field_fault.FieldFault.{FieldFault}
 use Rattle.unit_form.specs.declared.field_fault.FieldFault.TheVariants.{Form, Version}
+use Rattle.unit_form.specs.declared.form.UnitForm.{UnitForm}
 
 -- What stands in a unit file, and where its callees and its code begin.
 pub record FieldsOfUnit : Type 0 where
@@ -22,20 +24,20 @@ pub record FieldsOfUnit : Type 0 where
   pub code : List ℕ
   pub code_offset : ℕ
 
--- The four bytes `CCU1`.
+-- The four bytes `CCU1` or `CCU2`.
 unfoldable pub magic_tests : List ℕ → List (Option FieldFault)
 magic_tests bytes =
     field bytes 0 4
     ∷ must (slice_index bytes 0 == 67) (Form 0)
     ∷ must (slice_index bytes 1 == 67) (Form 1)
     ∷ must (slice_index bytes 2 == 85) (Form 2)
-    ∷ must (slice_index bytes 3 == 49) (Version 3)
+    ∷ must (is_form_number (slice_index bytes 3)) (Version 3)
     ∷ []
 
 -- The size of the stack, of a method with so many arguments and locals.
-unfoldable pub max_stack_field : ℕ → List ℕ → ℕ → Parse ℕ
-max_stack_field variables bytes at =
-    let size = u8_field bytes at in
+unfoldable pub max_stack_field : UnitForm → ℕ → List ℕ → ℕ → Parse ℕ
+max_stack_field form variables bytes at =
+    let size = count_field form bytes at in
     record { tests = size.tests ++ (must (nat_le (variables + size.value) MAX_VARIABLES) (Form at) ∷ []); value = size.value; next = size.next }
 
 -- The code, after its length. Nothing stands after it.
@@ -49,19 +51,19 @@ code_field bytes at =
       next = code.next;
     }
 
--- All fields, in the order in which they stand.
-unfoldable pub unit_fields : List ℕ → Parse FieldsOfUnit
-unit_fields bytes =
+-- All fields behind the magic, in the order in which they stand in a file of this form.
+unfoldable pub fields_in : UnitForm → List ℕ → Parse FieldsOfUnit
+fields_in form bytes =
     let name = name_field bytes 4 in
     let result = place_field bytes name.next in
-    let args = variables_field 0 bytes result.next in
-    let locals = variables_field (length args.value) bytes args.next in
-    let max_stack = max_stack_field (length args.value + length locals.value) bytes locals.next in
+    let args = variables_field form 0 bytes result.next in
+    let locals = variables_field form (length args.value) bytes args.next in
+    let max_stack = max_stack_field form (length args.value + length locals.value) bytes locals.next in
     let count = u16_field bytes max_stack.next in
-    let callees = callee_fields count.value bytes count.next in
+    let callees = callee_fields form count.value bytes count.next in
     let code = code_field bytes callees.next in
     record {
-      tests = magic_tests bytes ++ (name.tests ++ (result.tests ++ (args.tests ++ (locals.tests ++ (max_stack.tests ++ (count.tests ++ (callees.tests ++ code.tests)))))));
+      tests = name.tests ++ (result.tests ++ (args.tests ++ (locals.tests ++ (max_stack.tests ++ (count.tests ++ (callees.tests ++ code.tests))))));
       value = record {
         name = name.value;
         result = result.value;
@@ -69,9 +71,15 @@ unit_fields bytes =
         locals = locals.value;
         max_stack = max_stack.value;
         callees = callees.value;
-        callee_offsets = callee_offsets count.value bytes count.next;
+        callee_offsets = callee_offsets form count.value bytes count.next;
         code = code.value;
         code_offset = callees.next + 4;
       };
       next = code.next;
     }
+
+-- The magic, and the fields in the form that it names.
+unfoldable pub unit_fields : List ℕ → Parse FieldsOfUnit
+unit_fields bytes =
+    let fields = fields_in (form_of bytes) bytes in
+    record { tests = magic_tests bytes ++ fields.tests; value = fields.value; next = fields.next }

@@ -9,6 +9,7 @@ ghost use Rattle.unit_form.specs.Roots.{told};
 ghost use Rattle.unit_form.specs.TreeFields.{tree_of_roots, tree_roots};
 
 use crate::field_fault::{FieldFault, FieldRefusal};
+use crate::form::UnitForm;
 use crate::numbers::u8_field;
 use crate::root::Root;
 use crate::tree_builder::tree_of_roots;
@@ -75,6 +76,7 @@ fn kept_tree(
 #[tactic(auto, using(crate::proofs::ClausesRead::kept_small, crate::proofs::ClausesRead::kept_read, crate::proofs::ClausesRead::kept_refused, crate::proofs::ClausesRead::tree_cut))]
 fn read_tree(
     alloc: Global,
+    form: UnitForm,
     bytes: &[u8],
     at: u32,
     args: &[Place],
@@ -85,10 +87,10 @@ fn read_tree(
     requires short { length bytes.now ≤ 2147483647 }
     requires inside { at ≤ length bytes.now }
     requires few { olds ≤ 64 }
-    ensures { JudgesOrNoMemory result (first_of (clause_tree args.now result_place kind olds bytes.now at).tests)
-        (λ read. IsRead bytes.now (clause_tree args.now result_place kind olds bytes.now at) read.0 read.1 × (is_clause_tree args.now result_place kind olds read.0 ≡ true)) }
+    ensures { JudgesOrNoMemory result (first_of (clause_tree form args.now result_place kind olds bytes.now at).tests)
+        (λ read. IsRead bytes.now (clause_tree form args.now result_place kind olds bytes.now at) read.0 read.1 × (is_clause_tree args.now result_place kind olds read.0 ≡ true)) }
 {
-    let (roots, next) = read_roots(alloc, bytes, at)?;
+    let (roots, next) = read_roots(alloc, form, bytes, at)?;
     match kept_tree(alloc, &roots, args, result_place, kind, olds)? {
         Some(tree) => Ok((tree, next)),
         None => Err(FieldFault::Form(at).into()),
@@ -101,6 +103,7 @@ fn read_tree(
 #[tactic(auto, using(cc_base::proofs::TestLemmas::appended, cc_base::proofs::TestLemmas::first_tests, cc_base::proofs::TestLemmas::carried), unfolding(crate::specs::Callees::clause_field))]
 fn read_clause(
     alloc: Global,
+    form: UnitForm,
     bytes: &[u8],
     at: u32,
     args: &[Place],
@@ -109,14 +112,14 @@ fn read_clause(
 ) -> Result<(Clause, u32), FieldRefusal>
     requires short { length bytes.now ≤ 2147483647 }
     requires few { olds ≤ 64 }
-    ensures { JudgesOrNoMemory result (first_of (clause_field args.now result_place olds bytes.now at).tests)
-        (λ read. IsRead bytes.now (clause_field args.now result_place olds bytes.now at) read.0 read.1 × (olds + old_count read.0.tree ≤ 64) × (term_size read.0.tree ≤ 4096)) }
+    ensures { JudgesOrNoMemory result (first_of (clause_field form args.now result_place olds bytes.now at).tests)
+        (λ read. IsRead bytes.now (clause_field form args.now result_place olds bytes.now at) read.0 read.1 × (olds + old_count read.0.tree ≤ 64) × (term_size read.0.tree ≤ 4096)) }
 {
     let number = u8_field(bytes, at)?;
     let Some(kind) = kind_of_number(number) else {
         return Err(FieldFault::Form(at).into());
     };
-    let (tree, next) = read_tree(alloc, bytes, at + 1, args, result_place, kind, olds)?;
+    let (tree, next) = read_tree(alloc, form, bytes, at + 1, args, result_place, kind, olds)?;
     Ok((Clause { kind, tree }, next))
 }
 
@@ -124,6 +127,7 @@ fn read_clause(
 #[tactic(auto, using(crate::proofs::Counted::none_read, crate::proofs::Counted::all_read))]
 fn read_each(
     alloc: Global,
+    form: UnitForm,
     bytes: &[u8],
     start: u32,
     count: u8,
@@ -132,14 +136,14 @@ fn read_each(
 ) -> Result<(Vec<Clause>, u32), FieldRefusal>
     requires short { length bytes.now ≤ 2147483647 }
     requires inside { start ≤ length bytes.now }
-    ensures { JudgesOrNoMemory result (first_of (clause_fields count args.now result_place bytes.now start).tests)
-        (λ read. IsRead bytes.now (clause_fields count args.now result_place bytes.now start) read.0.items read.1) }
+    ensures { JudgesOrNoMemory result (first_of (clause_fields form count args.now result_place bytes.now start).tests)
+        (λ read. IsRead bytes.now (clause_fields form count args.now result_place bytes.now start) read.0.items read.1) }
 {
     let mut clauses: Vec<Clause> = Vec::with_capacity(alloc, usize::from(count))?;
     let mut at = start;
     let mut olds = 0;
     for _clause in 0..count {
-        let (clause, next) = read_clause(alloc, bytes, at, args, result_place, olds)?;
+        let (clause, next) = read_clause(alloc, form, bytes, at, args, result_place, olds)?;
         olds += clause.tree.old_count();
         clauses.push(clause)?;
         at = next;
@@ -151,18 +155,19 @@ fn read_each(
 #[tactic(auto, using(cc_base::proofs::TestLemmas::appended, cc_base::proofs::TestLemmas::first_tests, cc_base::proofs::TestLemmas::carried), unfolding(crate::specs::Callees::clauses_field, crate::specs::Fields::u8_field))]
 pub fn read_clauses(
     alloc: Global,
+    form: UnitForm,
     bytes: &[u8],
     at: u32,
     args: &[Place],
     result_place: Place,
 ) -> Result<(Vec<Clause>, u32), FieldRefusal>
     requires short { length bytes.now ≤ 2147483647 }
-    ensures { JudgesOrNoMemory result (first_of (clauses_field args.now result_place bytes.now at).tests)
-        (λ read. IsRead bytes.now (clauses_field args.now result_place bytes.now at) read.0.items read.1) }
+    ensures { JudgesOrNoMemory result (first_of (clauses_field form args.now result_place bytes.now at).tests)
+        (λ read. IsRead bytes.now (clauses_field form args.now result_place bytes.now at) read.0.items read.1) }
 {
     let count = u8_field(bytes, at)?;
     if usize::from(count) > MAX_CLAUSES {
         return Err(FieldFault::Form(at).into());
     }
-    read_each(alloc, bytes, at + 1, count, args, result_place)
+    read_each(alloc, form, bytes, at + 1, count, args, result_place)
 }

@@ -4,6 +4,7 @@
 mod callees;
 mod clauses;
 mod field_fault;
+mod form;
 mod names;
 mod numbers;
 mod places;
@@ -16,5 +17,6 @@ mod unit_fields;
 mod unit_writer;
 
 pub use field_fault::{FieldFault, FieldRefusal};
+pub use form::UnitForm;
 pub use unit_fields::{UnitFields, read_fields};
 pub use unit_writer::unit_bytes;

@@ -2,10 +2,11 @@
 
 ghost use Rattle.std.specs.Prelude.{◌≡◌, ◌+◌, ◌≤◌, length};
 ghost use Rattle.cc_base.specs.Tests.{first_of, Judges};
-ghost use Rattle.unit_form.specs.Fields.{bytes_field, u16_field, u32_field, u8_field};
+ghost use Rattle.unit_form.specs.Fields.{bytes_field, count_field, u16_field, u32_field, u8_field};
 ghost use Rattle.unit_form.specs.Parses.{field, IsRead};
 
 use crate::field_fault::FieldFault;
+use crate::form::UnitForm;
 
 /// Tests that a field of this many bytes does not pass the end of the file.
 #[tactic(auto, unfolding(crate::specs::Parses::field))]
@@ -44,6 +45,24 @@ pub fn u32_field(bytes: &[u8], at: u32) -> Result<u32, FieldFault>
 {
     skip_field(bytes, at, 4)?;
     Ok(cc_base::u32_at(bytes, at as usize))
+}
+
+/// The count at this offset, in the size that it has in this form, and the offset after it.
+#[tactic(auto, unfolding(crate::specs::Fields::count_field))]
+pub fn count_field(form: UnitForm, bytes: &[u8], at: u32) -> Result<(u16, u32), FieldFault>
+    requires short { length bytes.now ≤ 2147483647 }
+    ensures { Judges result (first_of (count_field form bytes.now at).tests) (λ read. IsRead bytes.now (count_field form bytes.now at) read.0 read.1) }
+{
+    match form {
+        UnitForm::First => {
+            let count = u8_field(bytes, at)?;
+            Ok((u16::from(count), at + 1))
+        }
+        UnitForm::Second => {
+            let count = u16_field(bytes, at)?;
+            Ok((count, at + 2))
+        }
+    }
 }
 
 /// So many bytes from this offset on, as one field.

@@ -3,10 +3,12 @@
 ghost use Rattle.std.specs.Prelude.{◌≡◌, ◌+◌, ◌≤◌, length};
 ghost use Rattle.cc_base.specs.Tests.{first_of, Judges, JudgesOrNoMemory};
 ghost use Rattle.unit_form.specs.Fields.{place_field, variable_field, variable_fields, variables_field};
+ghost use Rattle.cil_model.specs.Limits.{MAX_VARIABLES};
 ghost use Rattle.unit_form.specs.Parses.{IsRead};
 
 use crate::field_fault::{FieldFault, FieldRefusal};
-use crate::numbers::u8_field;
+use crate::form::UnitForm;
+use crate::numbers::{count_field, u8_field};
 use cil_model::{MAX_VARIABLES, Place};
 use std::alloc::Global;
 
@@ -40,7 +42,7 @@ fn read_each(
     alloc: Global,
     bytes: &[u8],
     start: u32,
-    count: u8,
+    count: u16,
 ) -> Result<(Vec<Place>, u32), FieldRefusal>
     requires short { length bytes.now ≤ 2147483647 }
     requires inside { start ≤ length bytes.now }
@@ -58,21 +60,22 @@ fn read_each(
 
 /// The places of variables, after their count, and the offset after them. There are so many other variables of the
 /// method.
-#[tactic(auto, using(cc_base::proofs::TestLemmas::appended, cc_base::proofs::TestLemmas::first_tests, cc_base::proofs::TestLemmas::carried), unfolding(crate::specs::Fields::variables_field, crate::specs::Fields::u8_field))]
+#[tactic(auto, using(cc_base::proofs::TestLemmas::appended, cc_base::proofs::TestLemmas::first_tests, cc_base::proofs::TestLemmas::carried), unfolding(crate::specs::Fields::variables_field))]
 pub fn read_variables(
     alloc: Global,
+    form: UnitForm,
     bytes: &[u8],
     at: u32,
     others: usize,
 ) -> Result<(Vec<Place>, u32), FieldRefusal>
     requires short { length bytes.now ≤ 2147483647 }
-    requires few { others ≤ 128 }
-    ensures { JudgesOrNoMemory result (first_of (variables_field others bytes.now at).tests)
-        (λ read. IsRead bytes.now (variables_field others bytes.now at) read.0.items read.1 × (others + length read.0.items ≤ 128)) }
+    requires few { others ≤ MAX_VARIABLES }
+    ensures { JudgesOrNoMemory result (first_of (variables_field form others bytes.now at).tests)
+        (λ read. IsRead bytes.now (variables_field form others bytes.now at) read.0.items read.1 × (others + length read.0.items ≤ MAX_VARIABLES)) }
 {
-    let count = u8_field(bytes, at)?;
+    let (count, start) = count_field(form, bytes, at)?;
     if others + usize::from(count) > MAX_VARIABLES {
         return Err(FieldFault::Form(at).into());
     }
-    read_each(alloc, bytes, at + 1, count)
+    read_each(alloc, bytes, start, count)
 }

@@ -10,7 +10,7 @@ use cil_model::{BinOp, Place, UnOp};
 #[derive(Clone, Copy, Debug, PartialEq, Eq)]
 pub enum Root {
     Const(i32),
-    Arg(u8),
+    Arg(u16),
     Null,
     Result,
     Len,

@@ -29,7 +29,7 @@ fn node_over(alloc: Global, trees: &mut Vec<Tree>, root: Root) -> Result<Node, A
 {
     let node = match root {
         Root::Const(n) => Node::Const(n),
-        Root::Arg(n) => Node::Arg(u16::from(n)),
+        Root::Arg(n) => Node::Arg(n),
         Root::Null => Node::Null,
         Root::Result => Node::Result,
         Root::Len => Node::Len(take_last(alloc, trees)?),

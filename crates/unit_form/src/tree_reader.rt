@@ -6,6 +6,7 @@ ghost use Rattle.unit_form.specs.Roots.{told};
 ghost use Rattle.unit_form.specs.TreeFields.{kept_with, tree_roots};
 
 use crate::field_fault::{FieldFault, FieldRefusal};
+use crate::form::UnitForm;
 use crate::root::Root;
 use crate::root_reader::read_root;
 use cil_model::MAX_NODES;
@@ -26,11 +27,16 @@ fn keep(roots: &mut Vec<Root>, root: Root) -> Result<(), AllocError>
 /// may
 /// have nodes only so many are kept, and one more.
 #[tactic(auto, using(crate::proofs::RootsRead::reading))]
-pub fn read_roots(alloc: Global, bytes: &[u8], start: u32) -> Result<(Vec<Root>, u32), FieldRefusal>
+pub fn read_roots(
+    alloc: Global,
+    form: UnitForm,
+    bytes: &[u8],
+    start: u32,
+) -> Result<(Vec<Root>, u32), FieldRefusal>
     requires short { length bytes.now ≤ 2147483647 }
     requires inside { start ≤ length bytes.now }
-    ensures { JudgesOrNoMemory result (first_of (tree_roots bytes.now start).tests)
-        (λ read. (map told read.0.items ≡ take 4097 (tree_roots bytes.now start).value) × (read.1 ≡ (tree_roots bytes.now start).next) × (read.1 ≤ length bytes.now)) }
+    ensures { JudgesOrNoMemory result (first_of (tree_roots form bytes.now start).tests)
+        (λ read. (map told read.0.items ≡ take 4097 (tree_roots form bytes.now start).value) × (read.1 ≡ (tree_roots form bytes.now start).next) × (read.1 ≤ length bytes.now)) }
 {
     let mut roots = Vec::new(alloc);
     let mut at = start;
@@ -39,7 +45,7 @@ pub fn read_roots(alloc: Global, bytes: &[u8], start: u32) -> Result<(Vec<Root>,
         if trees == 0 {
             return Ok((roots, at));
         }
-        let (root, next) = read_root(bytes, at)?;
+        let (root, next) = read_root(form, bytes, at)?;
         keep(&mut roots, root)?;
         trees = trees - 1 + root.arity();
         at = next;

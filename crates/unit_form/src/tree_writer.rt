@@ -1,8 +1,9 @@
-//! Trees, written as they stand in a unit file.
+//! Trees, written as they stand in a unit file of the second form.
 
 ghost use Rattle.std.specs.Prelude.{◌≡◌, ◌<◌, ◌++◌, OnOk};
 ghost use Rattle.unit_form.specs.Roots.{told};
-ghost use Rattle.unit_form.specs.TreeSpelling.{ByteArgs, operator_byte, root_bytes, tree_bytes, unary_byte};
+ghost use Rattle.unit_form.specs.TreeSpelling.{operator_byte, root_bytes, tree_bytes, unary_byte};
+ghost use Rattle.unit_form.specs.declared.form.UnitForm.TheVariants.{Second};
 
 use crate::root::Root;
 use cil_model::{BinOp, Node, Tree, UnOp};
@@ -49,20 +50,29 @@ fn unary_byte(operator: UnOp) -> u8
 
 /// Appends the constant after its tag.
 fn append_constant(out: &mut Vec<u8>, n: i32) -> Result<(), AllocError>
-    ensures { OnOk result (out.new.items ≡ out.old.items ++ root_bytes (told (Root.Const n))) }
+    ensures { OnOk result (out.new.items ≡ out.old.items ++ root_bytes Second (told (Root.Const n))) }
 {
     out.extend_from_slice(&[1])?;
     out.extend_from_slice(&n.cast_unsigned().to_le_bytes())?;
     Ok(())
 }
 
+/// Appends an argument after its tag.
+fn append_argument(out: &mut Vec<u8>, n: u16) -> Result<(), AllocError>
+    ensures { OnOk result (out.new.items ≡ out.old.items ++ root_bytes Second (told (Root.Arg n))) }
+{
+    out.extend_from_slice(&[2])?;
+    out.extend_from_slice(&n.to_le_bytes())?;
+    Ok(())
+}
+
 /// Appends a root.
 fn append_root(out: &mut Vec<u8>, root: Root) -> Result<(), AllocError>
-    ensures { OnOk result (out.new.items ≡ out.old.items ++ root_bytes (told root)) }
+    ensures { OnOk result (out.new.items ≡ out.old.items ++ root_bytes Second (told root)) }
 {
     match root {
         Root::Const(n) => append_constant(out, n),
-        Root::Arg(n) => out.extend_from_slice(&[2, n]),
+        Root::Arg(n) => append_argument(out, n),
         Root::Null => out.extend_from_slice(&[3]),
         Root::Result => out.extend_from_slice(&[4]),
         Root::Len => out.extend_from_slice(&[5]),
@@ -77,12 +87,11 @@ fn append_root(out: &mut Vec<u8>, root: Root) -> Result<(), AllocError>
 /// Appends a tree: its root, and then the trees below it in order.
 #[tactic(auto, using(crate::proofs::TreesWritten::writing))]
 pub fn append_tree(out: &mut Vec<u8>, tree: &Tree) -> Result<(), AllocError>
-    requires args { ByteArgs tree.now }
-    ensures { OnOk result (out.new.items ≡ out.old.items ++ tree_bytes tree.now) }
+    ensures { OnOk result (out.new.items ≡ out.old.items ++ tree_bytes Second tree.now) }
 {
     match &tree.node {
         Node::Const(n) => append_root(out, Root::Const(*n)),
-        Node::Arg(n) => append_root(out, Root::Arg(*n as u8)),
+        Node::Arg(n) => append_root(out, Root::Arg(*n)),
         Node::Null => append_root(out, Root::Null),
         Node::Result => append_root(out, Root::Result),
         Node::Len(array) => {

@@ -2,17 +2,19 @@
 
 ghost use Rattle.std.specs.Prelude.{◌≡◌, ◌+◌, ◌≤◌, ⊤, length, IfOk};
 ghost use Rattle.cc_base.specs.Tests.{first_of, GivesOnly, Judges, JudgesOrNoMemory};
-ghost use Rattle.cil_model.specs.Limits.{MAX_CODE_BYTES};
+ghost use Rattle.cil_model.specs.Limits.{MAX_CODE_BYTES, MAX_VARIABLES};
 ghost use Rattle.unit_form.specs.FieldsRead.{fields_told, HasRead, IsCodeWithin};
 ghost use Rattle.cil_model.specs.declared.unit.Unit.{Unit as MethodUnit};
+ghost use Rattle.unit_form.specs.Forms.{form_of};
 ghost use Rattle.unit_form.specs.Parses.{IsRead};
-ghost use Rattle.unit_form.specs.Spelling.{HasFields, unit_bytes};
-ghost use Rattle.unit_form.specs.UnitFields.{code_field, magic_tests, max_stack_field, unit_fields};
+ghost use Rattle.unit_form.specs.Spelling.{HasFields, IsSpelledBy};
+ghost use Rattle.unit_form.specs.UnitFields.{code_field, fields_in, magic_tests, max_stack_field, unit_fields};
 
 use crate::callees::read_callees;
 use crate::field_fault::{FieldFault, FieldRefusal};
+use crate::form::UnitForm;
 use crate::names::read_name;
-use crate::numbers::{bytes_field, skip_field, u8_field, u16_field, u32_field};
+use crate::numbers::{bytes_field, count_field, skip_field, u16_field, u32_field};
 use crate::places::{read_place, read_variables};
 use cil_model::{CalleeInfo, MAX_CODE_BYTES, MAX_VARIABLES, Place};
 use std::alloc::Global;
@@ -26,7 +28,7 @@ pub struct UnitFields<'a> {
     pub args: Vec<Place>,
     pub locals: Vec<Place>,
     /// The number of values that the stack holds at most.
-    pub max_stack: u8,
+    pub max_stack: u16,
     /// The methods that the code calls.
     pub callees: Vec<CalleeInfo>,
     /// Where each of them begins in the file.
@@ -36,10 +38,10 @@ pub struct UnitFields<'a> {
     pub code_offset: u32,
 }
 
-/// Tests that the file begins with `CCU1`.
-#[tactic(auto, using(cc_base::proofs::TestLemmas::first_tests), unfolding(crate::specs::UnitFields::magic_tests))]
-fn check_magic(bytes: &[u8]) -> Result<(), FieldFault>
-    ensures { Judges result (first_of (magic_tests bytes.now)) (λ _. 4 ≤ length bytes.now) }
+/// The form of the file, by its first four bytes, `CCU1` or `CCU2`.
+#[tactic(auto, using(cc_base::proofs::TestLemmas::first_tests), unfolding(crate::specs::UnitFields::magic_tests, crate::specs::Forms::form_of))]
+fn read_magic(bytes: &[u8]) -> Result<UnitForm, FieldFault>
+    ensures { Judges result (first_of (magic_tests bytes.now)) (λ form. form ≡ form_of bytes.now) }
 {
     skip_field(bytes, 0, 4)?;
     if bytes[0] != b'C' {
@@ -51,23 +53,29 @@ fn check_magic(bytes: &[u8]) -> Result<(), FieldFault>
     if bytes[2] != b'U' {
         return Err(FieldFault::Form(2));
     }
-    if bytes[3] != b'1' {
-        return Err(FieldFault::Version(3));
+    match UnitForm::of_number(bytes[3]) {
+        Some(form) => Ok(form),
+        None => Err(FieldFault::Version(3)),
     }
-    Ok(())
 }
 
-/// The size of the stack of a method with so many arguments and locals.
-#[tactic(auto, using(cc_base::proofs::TestLemmas::appended, cc_base::proofs::TestLemmas::first_tests), unfolding(crate::specs::UnitFields::max_stack_field, crate::specs::Fields::u8_field))]
-fn read_max_stack(bytes: &[u8], at: u32, variables: usize) -> Result<u8, FieldFault>
-    requires few { variables ≤ 128 }
-    ensures { Judges result (first_of (max_stack_field variables bytes.now at).tests) (λ size. IsRead bytes.now (max_stack_field variables bytes.now at) size (at + 1)) }
+/// The size of the stack of a method with so many arguments and locals, and the offset after it.
+#[tactic(auto, using(cc_base::proofs::TestLemmas::appended, cc_base::proofs::TestLemmas::first_tests), unfolding(crate::specs::UnitFields::max_stack_field))]
+fn read_max_stack(
+    form: UnitForm,
+    bytes: &[u8],
+    at: u32,
+    variables: usize,
+) -> Result<(u16, u32), FieldFault>
+    requires short { length bytes.now ≤ 2147483647 }
+    requires few { variables ≤ MAX_VARIABLES }
+    ensures { Judges result (first_of (max_stack_field form variables bytes.now at).tests) (λ read. IsRead bytes.now (max_stack_field form variables bytes.now at) read.0 read.1) }
 {
-    let size = u8_field(bytes, at)?;
+    let (size, next) = count_field(form, bytes, at)?;
     if variables + usize::from(size) > MAX_VARIABLES {
         return Err(FieldFault::Form(at));
     }
-    Ok(size)
+    Ok((size, next))
 }
 
 /// The code, after its length. Nothing stands after it.
@@ -90,21 +98,20 @@ fn read_code(bytes: &[u8], at: u32) -> Result<&[u8], FieldFault>
     Ok(code)
 }
 
-/// The fields, or the first fault among them.
-#[tactic(auto, using(cc_base::proofs::TestLemmas::appended, cc_base::proofs::TestLemmas::carried), unfolding(crate::specs::UnitFields::unit_fields))]
-fn read_first(alloc: Global, bytes: &[u8]) -> Result<UnitFields<'_>, FieldRefusal>
+/// The fields behind the magic of this form, or the first fault among them.
+#[tactic(auto, using(cc_base::proofs::TestLemmas::appended, cc_base::proofs::TestLemmas::carried), unfolding(crate::specs::UnitFields::fields_in))]
+fn read_in(alloc: Global, form: UnitForm, bytes: &[u8]) -> Result<UnitFields<'_>, FieldRefusal>
     requires short { length bytes.now ≤ 2147483647 }
-    ensures judged { JudgesOrNoMemory result (first_of (unit_fields bytes.now).tests) (λ fields. fields_told fields ≡ (unit_fields bytes.now).value) }
+    ensures judged { JudgesOrNoMemory result (first_of (fields_in form bytes.now).tests) (λ fields. fields_told fields ≡ (fields_in form bytes.now).value) }
     ensures code { IfOk result (IsCodeWithin bytes.now) }
 {
-    check_magic(bytes)?;
     let (name, at) = read_name(bytes, 4)?;
     let result = read_place(bytes, at)?;
-    let (args, at) = read_variables(alloc, bytes, at + 1, 0)?;
-    let (locals, at) = read_variables(alloc, bytes, at, args.len())?;
-    let max_stack = read_max_stack(bytes, at, args.len() + locals.len())?;
-    let count = u16_field(bytes, at + 1)?;
-    let (callees, callee_offsets, at) = read_callees(alloc, bytes, at + 3, count)?;
+    let (args, at) = read_variables(alloc, form, bytes, at + 1, 0)?;
+    let (locals, at) = read_variables(alloc, form, bytes, at, args.len())?;
+    let (max_stack, at) = read_max_stack(form, bytes, at, args.len() + locals.len())?;
+    let count = u16_field(bytes, at)?;
+    let (callees, callee_offsets, at) = read_callees(alloc, form, bytes, at + 2, count)?;
     let code = read_code(bytes, at)?;
     Ok(UnitFields {
         name,
@@ -119,7 +126,18 @@ fn read_first(alloc: Global, bytes: &[u8]) -> Result<UnitFields<'_>, FieldRefusa
     })
 }
 
-/// The fields of a unit file, or the first fault among them.
+/// The magic and the fields, or the first fault among them.
+#[tactic(auto, using(cc_base::proofs::TestLemmas::appended, cc_base::proofs::TestLemmas::carried), unfolding(crate::specs::UnitFields::unit_fields))]
+fn read_first(alloc: Global, bytes: &[u8]) -> Result<UnitFields<'_>, FieldRefusal>
+    requires short { length bytes.now ≤ 2147483647 }
+    ensures judged { JudgesOrNoMemory result (first_of (unit_fields bytes.now).tests) (λ fields. fields_told fields ≡ (unit_fields bytes.now).value) }
+    ensures code { IfOk result (IsCodeWithin bytes.now) }
+{
+    let form = read_magic(bytes)?;
+    read_in(alloc, form, bytes)
+}
+
+/// The fields of a unit file in one of the two forms, or the first fault among them.
 ///
 /// Cost: linear in the length of the file. The name and the code are not copied.
 pub fn read_fields(alloc: Global, bytes: &[u8]) -> Result<UnitFields<'_>, FieldRefusal>
@@ -128,10 +146,10 @@ pub fn read_fields(alloc: Global, bytes: &[u8]) -> Result<UnitFields<'_>, FieldR
     ensures judged { JudgesOrNoMemory result (first_of (unit_fields bytes.now).tests) (λ fields. fields_told fields ≡ (unit_fields bytes.now).value) }
     // The code lies in the file, and is not too long.
     ensures code { IfOk result (IsCodeWithin bytes.now) }
-    // What is read is spelled by the bytes.
-    ensures spelled { IfOk result (λ fields. (unit : MethodUnit) → HasRead unit (fields_told fields) → (unit_bytes unit ≡ bytes.now) × HasFields unit) }
-    // Where the bytes spell a unit, its fields are read, unless memory runs out.
-    ensures only { (unit : MethodUnit) → HasFields unit → unit_bytes unit ≡ bytes.now → GivesOnly result (λ fields. HasRead unit (fields_told fields)) }
+    // What is read is spelled by the bytes, in one of the forms.
+    ensures spelled { IfOk result (λ fields. (unit : MethodUnit) → HasRead unit (fields_told fields) → IsSpelledBy unit bytes.now × HasFields unit) }
+    // Where the bytes spell a unit in one of the forms, its fields are read, unless memory runs out.
+    ensures only { (unit : MethodUnit) → HasFields unit → IsSpelledBy unit bytes.now → GivesOnly result (λ fields. HasRead unit (fields_told fields)) }
 {
     read_first(alloc, bytes)
 }

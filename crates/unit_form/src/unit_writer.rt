@@ -1,10 +1,11 @@
-//! Units, written as files.
+//! Units, written as files of the second form.
 
 ghost use Rattle.std.specs.Prelude.{◌≡◌, ◌≤◌, ◌<◌, ◌++◌, ◌^◌, length, IfOk, OnOk};
 ghost use Rattle.std.specs.List.{flat_map, AllByRecursion};
 ghost use Rattle.cil_model.specs.WellFormed.{IsCallee};
 ghost use Rattle.unit_form.specs.Callees.{kind_number};
-ghost use Rattle.unit_form.specs.Spelling.{HasByteArgs, HasFields, callee_bytes, clause_bytes, clauses_bytes, name_bytes, places_bytes, unit_bytes};
+ghost use Rattle.unit_form.specs.Spelling.{HasFields, callee_bytes, clause_bytes, clauses_bytes, name_bytes, places_bytes, unit_bytes};
+ghost use Rattle.unit_form.specs.declared.form.UnitForm.TheVariants.{Second};
 
 use crate::tree_writer::append_tree;
 use cil_model::{CalleeInfo, Clause, ClauseKind, Place, Unit};
@@ -22,10 +23,10 @@ fn append_name(out: &mut Vec<u8>, name: &[u8]) -> Result<(), AllocError>
 
 /// Appends places after their count.
 fn append_places(out: &mut Vec<u8>, places: &[Place]) -> Result<(), AllocError>
-    requires few { length places.now < 2 ^ 8 }
-    ensures { OnOk result (out.new.items ≡ out.old.items ++ places_bytes places.now) }
+    requires few { length places.now < 2 ^ 16 }
+    ensures { OnOk result (out.new.items ≡ out.old.items ++ places_bytes Second places.now) }
 {
-    out.push(places.len() as u8)?;
+    out.extend_from_slice(&(places.len() as u16).to_le_bytes())?;
     for place in places {
         out.push(place.number())?;
     }
@@ -34,8 +35,7 @@ fn append_places(out: &mut Vec<u8>, places: &[Place]) -> Result<(), AllocError>
 
 /// Appends a clause: the number of its kind, and its tree.
 fn append_clause(out: &mut Vec<u8>, clause: &Clause) -> Result<(), AllocError>
-    requires args { HasByteArgs clause.now }
-    ensures { OnOk result (out.new.items ≡ out.old.items ++ clause_bytes clause.now) }
+    ensures { OnOk result (out.new.items ≡ out.old.items ++ clause_bytes Second clause.now) }
 {
     let number = match clause.kind {
         ClauseKind::Requires => 1,
@@ -48,8 +48,7 @@ fn append_clause(out: &mut Vec<u8>, clause: &Clause) -> Result<(), AllocError>
 /// Appends clauses after their count.
 fn append_clauses(out: &mut Vec<u8>, clauses: &[Clause]) -> Result<(), AllocError>
     requires few { length clauses.now < 2 ^ 8 }
-    requires args { AllByRecursion HasByteArgs clauses.now }
-    ensures { OnOk result (out.new.items ≡ out.old.items ++ clauses_bytes clauses.now) }
+    ensures { OnOk result (out.new.items ≡ out.old.items ++ clauses_bytes Second clauses.now) }
 {
     out.push(clauses.len() as u8)?;
     for clause in clauses {
@@ -59,10 +58,9 @@ fn append_clauses(out: &mut Vec<u8>, clauses: &[Clause]) -> Result<(), AllocErro
 }
 
 /// Appends what is said of a callee.
-#[tactic(auto, using(crate::proofs::UnitWritten::callee_args))]
 fn append_callee(out: &mut Vec<u8>, callee: &CalleeInfo) -> Result<(), AllocError>
     requires callee { IsCallee callee.now }
-    ensures { OnOk result (out.new.items ≡ out.old.items ++ callee_bytes callee.now) }
+    ensures { OnOk result (out.new.items ≡ out.old.items ++ callee_bytes Second callee.now) }
 {
     append_name(out, callee.name.as_slice())?;
     out.push(callee.result.number())?;
@@ -73,7 +71,7 @@ fn append_callee(out: &mut Vec<u8>, callee: &CalleeInfo) -> Result<(), AllocErro
 /// Appends what is said of callees.
 fn append_callees(out: &mut Vec<u8>, callees: &[CalleeInfo]) -> Result<(), AllocError>
     requires callees { AllByRecursion IsCallee callees.now }
-    ensures { OnOk result (out.new.items ≡ out.old.items ++ flat_map callee_bytes callees.now) }
+    ensures { OnOk result (out.new.items ≡ out.old.items ++ flat_map (callee_bytes Second) callees.now) }
 {
     for callee in callees {
         append_callee(out, callee)?;
@@ -81,19 +79,19 @@ fn append_callees(out: &mut Vec<u8>, callees: &[CalleeInfo]) -> Result<(), Alloc
     Ok(())
 }
 
-/// The file of a unit.
-#[tactic(auto, unfolding(crate::specs::Spelling::unit_bytes))]
+/// The file of a unit, in the second form.
+#[tactic(auto, unfolding(crate::specs::Spelling::unit_bytes, crate::specs::Spelling::unit_spelling))]
 pub fn unit_bytes(alloc: Global, unit: &Unit) -> Result<Vec<u8>, AllocError>
     requires fields { HasFields unit.now }
     ensures { IfOk result (λ bytes. bytes.items ≡ unit_bytes unit.now) }
 {
     let mut out = Vec::new(alloc);
-    out.extend_from_slice(b"CCU1")?;
+    out.extend_from_slice(b"CCU2")?;
     append_name(&mut out, unit.name.as_slice())?;
     out.push(unit.result.number())?;
     append_places(&mut out, unit.args.as_slice())?;
     append_places(&mut out, unit.locals.as_slice())?;
-    out.push(unit.max_stack)?;
+    out.extend_from_slice(&unit.max_stack.to_le_bytes())?;
     let callees = unit.callees.as_slice();
     out.extend_from_slice(&(callees.len() as u16).to_le_bytes())?;
     append_callees(&mut out, callees)?;

@@ -31,6 +31,7 @@ use Rattle.clause_trees.specs.ClauseStates.{assumed}
 use Rattle.clause_trees.specs.Meaning.{IsTest, Reads}
 use Rattle.clause_trees.specs.declared.reader.TreeEnv.{TreeEnv}
 use Rattle.clause_trees.specs.VariableKinds.{IsOneOfKind, IsReadable}
+use Rattle.contract_calls.proofs.OwnInts.{own_ints}
 use Rattle.machine_points.proofs.PointsKeep.{entry_point, point_values}
 use Rattle.machine_points.specs.MachineValues.{HasMachineValues}
 use Rattle.machine_points.specs.Points.{point}
@@ -45,7 +46,6 @@ use Rattle.transfer_rules.specs.Forms.{FitKinds, FitsKind, FitsStack, HasKinds, 
 use Rattle.transfer_rules.specs.Laws.BegunLaws.{begun_kinds, begun_over, both_all, entry_kinds, forms_of, on_no_stack}
 use Rattle.transfer_rules.specs.Laws.Fitting.{AreKinds, fit_at}
 use Rattle.transfer_rules.specs.Laws.FormsMerged.{normal_fits}
-use Rattle.obligation_prover.proofs.OwnInts.{own_ints}
 use Rattle.transfer_rules.specs.Laws.SameKinds.{read_kind, same_forms}
 
 -- ---- what a Requires reads

@@ -10,7 +10,7 @@ use Rattle.cil_model.specs.Passes.{stack_at, successors}
 use Rattle.cil_model.specs.Runs.{instr_at}
 use Rattle.cil_model.specs.Shapes.{shape_of}
 use Rattle.cil_model.specs.UnitCalls.{unit_call}
-use Rattle.cil_model.specs.WellFormed.{IsCallee}
+use Rattle.cil_model.specs.WellFormed.{IsCallee, IsWellFormed}
 use Rattle.cil_model.specs.declared.instruction.Instr.{Instr}
 use Rattle.cil_model.specs.declared.instruction.Op.{Op}
 use Rattle.cil_model.specs.declared.instruction.Op.TheVariants as ops
@@ -35,6 +35,7 @@ use Rattle.transfer_rules.specs.Laws.Choosing.{chosen_stays}
 use Rattle.transfer_rules.specs.Laws.FormsBehind.{absorbed_fits, acted_fits, stays_fitting}
 use Rattle.transfer_rules.specs.Laws.FormsMerged.{normal_fits}
 use Rattle.transfer_rules.specs.Laws.PostLaws.{avoided_stays}
+use Rattle.transfer_rules.specs.Laws.ReturnForms.{fits_return, none_returns}
 use Rattle.transfer_rules.specs.Laws.StackSizes.{within_stack}
 use Rattle.transfer_rules.specs.Laws.StepsHold.{AreFormed, along_keeps}
 use Rattle.unit_flow.specs.Chains.{IsLeft, IsPassed, IsWay}
@@ -92,7 +93,7 @@ none_along : (unit : MethodUnit) (op : Op) (number : ℕ) → along unit op numb
 unfolding along
 none_along unit op number = refl
 
--- ---- calls
+-- ---- calls and returns
 
 named_ready : (unit : MethodUnit) (call : Option UnitCall) (stack after : List Kind) (state : State) → IsWithin unit stack
     → kinds.behind_call (shape_of unit) call stack ≡ Some after → FitsStack unit (Some stack) state
@@ -102,12 +103,15 @@ named_ready unit (Some (calls.Callee number)) stack after state within typed fit
     (λ info is. found_callee unit.callees number info within.callees is) within.few typed fits
 named_ready unit _ stack after state within typed fits = tt
 
--- What a call takes is there, where the state fits.
-fits_ready : (unit : MethodUnit) (op : Op) (stack after : List Kind) (state : State) → IsWithin unit stack
-    → kinds.behind (shape_of unit) op stack ≡ Some after → FitsStack unit (Some stack) state → CanDo unit op state
-fits_ready unit (ops.Call number) stack after state within typed fits =
+-- What a call takes, and what a return reads, is there where the state fits.
+fits_ready : (unit : MethodUnit) (op : Op) (stack after : List Kind) (state : State) → IsWellFormed unit
+    → IsWithin unit stack → kinds.behind (shape_of unit) op stack ≡ Some after → FitsStack unit (Some stack) state
+    → CanDo unit op state
+fits_ready unit (ops.Call number) stack after state formed within typed fits =
     named_ready unit (unit_call number) stack after state within typed fits
-fits_ready unit _ stack after state within typed fits = tt
+fits_ready unit ops.Return stack after state formed within typed fits =
+    (formed, fits_return unit stack after state within.few typed fits)
+fits_ready unit _ stack after state formed within typed fits = tt
 
 -- Where nothing is reached.
 none_named : (unit : MethodUnit) (call : Option UnitCall) → AllByRecursion IsCallee unit.callees
@@ -119,9 +123,10 @@ none_named unit (Some (calls.Callee number)) all = by (slice_get unit.callees nu
     by (Some info) is = (found_callee unit.callees number info all is, no_call info)
 none_named unit _ all = tt
 
-none_ready : (unit : MethodUnit) (op : Op) → AllByRecursion IsCallee unit.callees → CanDo unit op None
-none_ready unit (ops.Call number) all = none_named unit (unit_call number) all
-none_ready unit _ all = tt
+none_ready : (unit : MethodUnit) (op : Op) → IsWellFormed unit → CanDo unit op None
+none_ready unit (ops.Call number) formed = none_named unit (unit_call number) formed.callees
+none_ready unit ops.Return formed = (formed, none_returns unit)
+none_ready unit _ formed = tt
 
 -- A return has no way on.
 goes_on : (op : Op) (next n at : ℕ) → slice_get (successors op next) n ≡ Some at → op ≢ ops.Return
@@ -184,11 +189,12 @@ module _ (code : UnitFlow) (lawful : IsLawful code) where
   post_ready i at state here found fits = by (before at) refl state fits
     where
       by : (o : Option (List Kind)) → before at ≡ o → (state : State) → FitsStack unit o state → CanDo unit i.op state
-      by o is None fits = none_ready unit i.op lawful.formed.callees
+      by o is None fits = none_ready unit i.op lawful.formed
       by None is (Some known) fits = absurd fits
       by (Some stack) is (Some known) fits =
           let typed = typed_at unit code.kinds (decoded code lawful) lawful.kinds i at stack here found is in
-          fits_ready unit i.op stack typed.after (Some known) (within_at at stack is) typed.typed fits
+          fits_ready unit i.op stack typed.after (Some known) lawful.formed (within_at at stack is) typed.typed
+          fits
 
   pub through_ready : (is : List Instr) (at number target : ℕ) (state : State) → IsWay unit at number target is
       → FitsStack unit (before at) state → AreReady unit is state

@@ -18,8 +18,8 @@ use Rattle.machine_points.specs.MachineValues.{HasMachineValues}
 use Rattle.machine_points.specs.Points.{IsPointOf, lives_at}
 use Rattle.machine_points.specs.declared.point.Point.{Point}
 use Rattle.obligation_prover.specs.Avoiding.{avoid_all}
-use Rattle.obligation_prover.specs.Operations.{call_operation, conditions_at, operation_of}
-use Rattle.obligation_prover.proofs.Operands.{conditions_there}
+use Rattle.obligation_prover.specs.Operations.{call_operation, conditions_after, operation_of}
+use Rattle.obligation_prover.proofs.Operands.{assumed_there}
 use Rattle.obligation_prover.proofs.RuledOut.{all_avoided}
 use Rattle.state_facts.specs.Forms.{HasForm}
 use Rattle.state_facts.specs.Holds.{HoldsAt}
@@ -44,7 +44,7 @@ use Rattle.unit_flow.specs.Ways.{IsShortSwitch, way_of}
 
 -- Where an instruction did not end in a fault, what was there is there still.
 pub avoided_stays : (op : Op) (known : StateFacts) → HasForm known → StaysThereIn known (avoid_all op (Some known))
-avoided_stays op known form = judged_follow (conditions_at op known) known form (conditions_there op known form)
+avoided_stays op known form = judged_follow (conditions_after op known) known form (assumed_there op known form)
 
 stays_formed : (known : StateFacts) (o : State) → StaysThereIn known o → ForSome o HasForm
 stays_formed known None stays = λ x is. absurd (none-some x is)

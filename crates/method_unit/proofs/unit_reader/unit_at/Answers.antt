@@ -11,7 +11,7 @@ returns c =
       judged =
           made_as (fields_told c.args.fields) _ _ c.of.ensures
           (made (fields_told c.args.fields) c.deref.result.now _ _ _
-          (λ i. record { result = c.args.fields.result; args = c.from_vec.ensures i; locals = c.from_vec-2.ensures i; max_stack = c.from.ensures i; callees = c.from_vec-3.ensures i })
+          (λ i. record { result = c.args.fields.result; args = c.from_vec.ensures i; locals = c.from_vec-2.ensures i; max_stack = c.args.fields.max_stack; callees = c.from_vec-3.ensures i })
           c.deref-2.ensures.value c.in_ok-instrs.ensures.judged.0 (c.deref.ensures.value ∙ c.in_ok-instrs.ensures.judged.1)
           (subst (λ (is : List Instr). CodeOf is c.args.fields.code.now) (sym c.deref.ensures.value) c.in_ok-instrs.ensures.found.spelled)
           (record {
@@ -37,5 +37,5 @@ returns c =
 pub of-requires : goal.of-requires
 of-requires c =
     kinds_in _ _ _ _ _
-    (λ i. record { result = c.args.fields.result; args = c.from_vec.result; locals = c.from_vec-2.result; max_stack = c.from.ensures i; callees = c.from_vec-3.result })
+    (λ i. record { result = c.args.fields.result; args = c.from_vec.result; locals = c.from_vec-2.result; max_stack = c.args.fields.max_stack; callees = c.from_vec-3.result })
     (c.from_vec-6.ensures ∙ sym c.deref.ensures.value) c.in_ok-tested.ensures.kinds

@@ -1,7 +1,7 @@
 use Rattle.std.proofs.Common.{ap, ◌∙◌}
 use Rattle.std.specs.Option.{option_and_then}
 use Rattle.obligation_prover.specs.Operations.{array_of, binary_of, call_operation, element_of, length_of}
-use Rattle.obligation_prover.proofs.Reading.{array_read, binary_read, both_read, call_read, length_read, load_read, other_read, store_read, top_in}
+use Rattle.obligation_prover.proofs.Reading.{array_read, binary_read, both_read, call_read, length_read, load_read, store_read, top_in}
 use Rattle.obligation_prover.proofs.operations.found_operation.Goals as goal
 
 pub returns-in-Length : goal.returns-in-Length
@@ -33,8 +33,3 @@ pub returns-in-Call : goal.returns-in-Call
 returns-in-Call c =
     c.call_operation.ensures ∙ ap (λ call. option_and_then (call_operation call) c.args.state.now) c.unit_call.ensures
     ∙ call_read c.args.op.now c.in-Call.number c.args.state.now c.in-Call.is
-
-pub returns-in_default : goal.returns-in_default
-returns-in_default c =
-    other_read c.args.op.now c.args.state.now c.in_default.not-Length c.in_default.not-LoadElem c.in_default.not-StoreElem c.in_default.not-NewArray
-    c.in_default.not-Bin c.in_default.not-Call

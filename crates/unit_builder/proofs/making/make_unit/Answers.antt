@@ -1,19 +1,9 @@
-use Rattle.std.proofs.Common.{◌≤◌, refl, subst, sym, ◌∙◌, arith}
+use Rattle.std.proofs.Common.{refl, subst, sym, ◌∙◌}
 use Rattle.cc_base.proofs.TestLemmas.{refusal-carried}
 use Rattle.method_unit.proofs.Made.{kinds_in}
-use Rattle.unit_builder.proofs.Parts.{callees_are, kinds_faulty, stack_small, unit_judged}
+use Rattle.unit_builder.proofs.Parts.{callees_are, kinds_faulty, unit_judged}
 use Rattle.unit_builder.specs.Making.{HasParts}
 use Rattle.unit_builder.proofs.making.make_unit.Goals as goal
-use Rattle.cil_model.specs.Limits.{MAX_VARIABLES}
-
-pub overflow_cast-unit : goal.overflow_cast-unit
-overflow_cast-unit c =
-    let asm = c.args.assembly.now in
-    let method = c.args.method.now in
-    let callees = callees_are asm method _ _ (c.deref.ensures.value ∙ c.requires.own.callees) c.in_ok-callees.ensures.value in
-    let shape = c.in_ok-shape.ensures asm method c.requires.types c.requires.variables callees in
-    let small : c.in_ok-shape.shape.max_stack ≤ MAX_VARIABLES = stack_small asm method c.in_ok-shape.shape c.args.variables.now shape c.requires.variables c.requires.small in
-    omega (arith, small)
 
 pub returns-clause-judged : goal.returns-clause-judged
 returns-clause-judged c =

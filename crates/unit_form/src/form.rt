@@ -1,0 +1,27 @@
+//! The two forms of unit files.
+
+ghost use Rattle.std.specs.Prelude.{◌≡◌, Some, None, if◌then◌else◌};
+ghost use Rattle.unit_form.specs.Forms.{form_numbered, is_form_number};
+
+/// A form of unit files. They differ in the size of a place list's count, of the stack's size and of an argument's
+/// number.
+#[derive(Clone, Copy, Debug, PartialEq, Eq)]
+pub enum UnitForm {
+    /// `CCU1`: one byte each.
+    First,
+    /// `CCU2`: two bytes each.
+    Second,
+}
+
+impl UnitForm {
+    /// The form that the last byte of a magic names.
+    pub fn of_number(number: u8) -> Option<UnitForm>
+        ensures { result ≡ if is_form_number number then Some (form_numbered number) else None }
+    {
+        match number {
+            b'1' => Some(UnitForm::First),
+            b'2' => Some(UnitForm::Second),
+            _ => None,
+        }
+    }
+}
