@@ -17,7 +17,6 @@ use Rattle.cil_model.specs.declared.unit.Unit.{Unit as MethodUnit}
 use Rattle.cil_model.proofs.Lists.{all_append, all_drop, all_take}
 use Rattle.clause_trees.proofs.AssumedKept.{itself_same}
 use Rattle.clause_trees.proofs.SameForms.{all_on}
-use Rattle.clause_trees.proofs.Stays.{grown_itself}
 use Rattle.clause_trees.specs.VariableKinds.{AreSameForms, HasSameFormsIn, IsGrown, IsOfKind, IsOneOfKind, IsPushedIn, IsReadable}
 use Rattle.frame_names.specs.declared.var.Var.{Var}
 use Rattle.frame_names.specs.declared.var.Var.TheVariants as vars

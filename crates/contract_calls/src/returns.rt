@@ -87,11 +87,7 @@ fn ensured(alloc: Global, state: AbsState, unit: &Unit) -> Result<AbsState, NoMe
 /// The state in which all Ensures of the unit are assumed to be true at a return, one after the other.
 ///
 /// Cost: that of `assume_tree` for each.
-pub fn assume_all_ensures(
-    alloc: Global,
-    state: AbsState,
-    unit: &Unit,
-) -> Result<AbsState, NoMemory>
+pub fn assume_all_ensures(alloc: Global, state: AbsState, unit: &Unit) -> Result<AbsState, NoMemory>
     requires formed { IsWellFormed unit.now }
     requires ready { CanReturn unit.now state }
     ensures value { IfOk result (λ new. new ≡ rule.ensured unit.now state) }

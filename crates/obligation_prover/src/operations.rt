@@ -83,11 +83,7 @@ fn call_operation(call: Option<UnitCall>, state: &AbsState) -> Option<Operation>
 }
 
 /// What an instruction with this operation does that may end in a fault, by its rule.
-#[tactic(
-    auto,
-    unfolding(crate::specs::Operations::operation_of),
-    using(crate::proofs::Reading::other_read)
-)]
+#[tactic(auto, unfolding(crate::specs::Operations::operation_of), using(crate::proofs::Reading::other_read))]
 fn found_operation(op: &Op, state: &AbsState) -> Option<Operation>
     ensures { result ≡ option_and_then (rule.operation_of op.now) state.now }
 {

@@ -3,15 +3,13 @@ use Rattle.std.proofs.Common.{◌≡◌, Option, Some, None, refl, sym, ap, subs
 use Rattle.std.specs.Prelude.{Result, Ok, Err, OnOk}
 use Rattle.std.specs.Option.{option_and_then}
 use Rattle.cil_model.specs.WellFormed.{IsCallee, IsWellFormed}
-use Rattle.cil_model.specs.declared.instruction.Op.{Op}
-use Rattle.cil_model.specs.declared.instruction.Op.TheVariants as ops
 use Rattle.cil_model.specs.declared.unit.CalleeInfo.{CalleeInfo}
 use Rattle.cil_model.specs.declared.unit.Unit.{Unit as MethodUnit}
 use Rattle.contract_calls.specs.CallForms.{CanCall, CanReturn}
 use Rattle.contract_calls.specs.CallStates.{called}
 use Rattle.state_facts.specs.StateFacts.{State}
 use Rattle.transfer_rules.specs.Acts.{after_callee}
-use Rattle.transfer_rules.specs.Owed.{CanCallIt, CanDo, CanGiveBack}
+use Rattle.transfer_rules.specs.Owed.{CanCallIt, CanGiveBack}
 use Rattle.transfer_rules.specs.Laws.CalledForms.{none_back}
 
 -- ---- the callee of a number
@@ -48,9 +46,5 @@ formed_unit unit state ready = ready.0
 
 pub ready_unit : (unit : MethodUnit) (state : State) → CanGiveBack unit state → CanReturn unit state
 ready_unit unit state ready = ready.1
-
-pub can_give : (unit : MethodUnit) (op : Op) (state : State) → op ≡ ops.Return → CanDo unit op state
-    → CanGiveBack unit state
-can_give unit op state is can = subst (λ (o : Op). CanDo unit o state) is can
 
 pub ruleset returning = (formed_unit, ready_unit)
