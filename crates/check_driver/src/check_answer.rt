@@ -136,6 +136,24 @@ pub fn find_all<D: Finder>(
     Ok(found)
 }
 
+/// The same of an assembly that is looked at alone.
+pub fn find_alone<D: Finder>(
+    alloc: Global,
+    assembly: &Assembly<'_>,
+    show: bool,
+    finder: &mut D,
+) -> Result<Vec<Finding>, AllocError>
+    ensures value { IfOk result (λ found. map finding_in found.items ≡ findings (entries_of assembly.now)) }
+    ensures shown { IfOk result (λ found. map shown_in found.items ≡ all_shown show (entries_of assembly.now)) }
+    ensures within { IfOk result (λ found. All IsWithin found.items) }
+    ensures few { IfOk result (λ found. length found.items < 2 ^ 32) }
+    ensures runnable { IfOk result (λ _. AreRunnable assembly.now) }
+    ensures asked { Asks (units_asked assembly.now) result (D.asked finder.old) (D.asked finder.new) }
+{
+    let mut cache = VerdictCache::none(alloc, show);
+    find_all(alloc, assembly, &mut cache, finder)
+}
+
 /// The counts of a report of which these are the findings.
 pub fn count(found: &[Finding]) -> Counts
     requires within { All IsWithin found.now }
@@ -222,8 +240,9 @@ fn report_lines<D: Finder>(
     ensures keys { OnOk result (cache.new.keys ≡ cache.old.keys ++ unseen cache.old.keys (judged_keys (entries_of assembly.now))) }
     ensures asked { Asks (unseen cache.old.keys (judged_keys (entries_of assembly.now))) result (D.asked finder.old) (D.asked finder.new) }
 {
+    let show = cache.shows();
     let found = find_all(alloc, assembly, cache, finder)?;
-    let lines = check_lines(alloc, name, cache.shows(), assembly, &found)?;
+    let lines = check_lines(alloc, name, show, assembly, &found)?;
     Ok(ReportLines {
         lines,
         status: status_of(&found),
@@ -255,9 +274,9 @@ pub fn report<D: Finder>(
     ensures value { IfOk result (λ text. text.items ≡ check_text name.now show assembly.now) }
     ensures asked { Asks (units_asked assembly.now) result (D.asked finder.old) (D.asked finder.new) }
 {
-    let mut cache = VerdictCache::none(alloc, show);
-    let report = report_lines(alloc, name.as_bytes(), assembly, &mut cache, finder)?;
-    text_of(alloc, &report.lines)
+    let found = find_alone(alloc, assembly, show, finder)?;
+    let lines = check_lines(alloc, name.as_bytes(), show, assembly, &found)?;
+    text_of(alloc, &lines)
 }
 
 /// Answers for one of the assemblies of a check.
