@@ -1,5 +1,5 @@
 -- Answers, by what is met under the names of files and by the words.
-use Rattle.std.proofs.Common.{◌≡◌, ℕ, ◌≤◌, List, [], ◌∷◌, length, take, Vec, Global, Option, Some, None, Result, Contains, refl, sym, ap, ◌∙◌, arith, inl, inr, length-take, slice_index_or, Bool}
+use Rattle.std.proofs.Common.{◌≡◌, ℕ, ◌≤◌, List, [], ◌∷◌, length, take, Vec, Global, Option, Some, None, Result, Contains, refl, sym, ap, ◌∙◌, arith, inl, inr, length-take, slice_index_or, Bool, is_some, unwrap_or}
 use Rattle.std.specs.Prelude.{codes}
 use Rattle.std.proofs.lemmas.Bool.{cases_lt, le-leb}
 use Rattle.std.proofs.lemmas.List.{take_all, get_or-map, length-map}
@@ -7,11 +7,11 @@ use Rattle.asm_image.specs.Faults.{FirstBroken}
 use Rattle.cc_base.specs.Files.{READ_LIMIT}
 use Rattle.cil_model.specs.Limits.{MAX_FILE_BYTES}
 use Rattle.answer_lines.specs.Answers.{Answer, USAGE, error_answer, refused_answer, missing_line}
-use Rattle.check_driver.specs.Asked.{asked_by, asked_unless, bytes_asked, check_asked, files_asked, unit_file_asked}
-use Rattle.check_driver.specs.Expected.{missing_or, expected, unit_file_answer, check_answer, bytes_answer, files_answer, file_at}
-use Rattle.check_driver.specs.Met.{AreContents, first_missing, contents, bytes_read}
+use Rattle.check_driver.specs.Asked.{asked_by, asked_unless, bytes_asked, check_keys, distinct, files_asked, keys_before, unit_file_asked}
+use Rattle.check_driver.specs.Expected.{missing_or, expected, unit_file_answer, check_answer, checked_before, bytes_answer, files_answer, file_at}
+use Rattle.check_driver.specs.Met.{AreContents, IsContent, first_missing, contents, bytes_read}
 use Rattle.answer_lines.specs.Outcome.{Gives, GivesOrUnread, unread_answer}
-use Rattle.command_words.specs.Words.{args_told, command_of, file_names, file_indexes, word_at, words_at}
+use Rattle.command_words.specs.Words.{args_told, check_files, command_of, file_names, file_indexes, word_at, words_at}
 use Rattle.answer_lines.specs.Writing.{Change}
 use Rattle.command_words.specs.declared.command.Command.{Command}
 use Rattle.command_words.specs.declared.command.Command.TheVariants as commands
@@ -30,12 +30,10 @@ unit_cut : (name bytes : List ℕ) (limit : ℕ) → limit ≡ READ_LIMIT → RE
 unit_cut name bytes limit is past =
     too_large name bytes past ∙ sym (too_large name (take limit bytes) (omega (arith, length-take limit bytes)))
 
-abbrev check_file_answer : List ℕ → Bool → List ℕ → Answer
-check_file_answer name show bytes = check_answer name show bytes (FirstBroken bytes)
-
-check_cut : (name : List ℕ) (show : Bool) (bytes : List ℕ) (limit : ℕ) → limit ≡ READ_LIMIT → READ_LIMIT ≤ length bytes
-    → check_file_answer name show bytes ≡ check_file_answer name show (take limit bytes)
-check_cut name show bytes limit is past =
+-- So has an assembly, and what comes after it.
+checked_cut : (name : List ℕ) (show : Bool) (others : Answer) (bytes : List ℕ) (limit : ℕ) → limit ≡ READ_LIMIT → READ_LIMIT ≤ length bytes
+    → checked_before name show bytes (FirstBroken bytes) others ≡ checked_before name show (take limit bytes) (FirstBroken (take limit bytes)) others
+checked_cut name show others bytes limit is past =
     let whole = large_first bytes past in
     let cut = large_first (take limit bytes) (omega (arith, length-take limit bytes)) in
     rw (whole, cut) refl
@@ -52,18 +50,35 @@ cut_alike answer bytes limit is past =
 some_is : {X : Type 0} (x y : X) → Some x ≡ Some y → x ≡ y
 some_is x y e = cc
 
--- What was read of the first file has the answer of what is met.
+-- What was read of a file has the answer of what is met.
+file_alike : {R : Type 0} (answer : List ℕ → R) (under : Option (List ℕ)) (bytes : List ℕ)
+    → ((bytes : List ℕ) → READ_LIMIT ≤ length bytes → answer bytes ≡ answer (take READ_LIMIT bytes)) → IsContent under bytes → answer (unwrap_or under []) ≡ answer bytes
+file_alike answer (Some whole) bytes past (inl is) = ap answer (some_is whole bytes is)
+file_alike answer (Some whole) bytes past (inr is) =
+    cut_alike answer whole READ_LIMIT refl (past whole) ∙ ap answer (some_is (take READ_LIMIT whole) bytes is)
+file_alike answer None bytes past (inl is) = absurd cc
+file_alike answer None bytes past (inr is) = absurd cc
+
 first_alike : {R : Type 0} (answer : List ℕ → R) (met : List (Option (List ℕ))) (read : List (Vec ℕ Global))
     → ((bytes : List ℕ) → READ_LIMIT ≤ length bytes → answer bytes ≡ answer (take READ_LIMIT bytes)) → AreContents met read
     → answer (file_at (contents met) 0) ≡ answer (file_at (bytes_read read) 0)
 first_alike answer [] [] past h = refl
-first_alike answer (Some whole ∷ met) (bytes ∷ read) past (inl is, h) = ap answer (some_is whole bytes.items is)
-first_alike answer (Some whole ∷ met) (bytes ∷ read) past (inr is, h) =
-    cut_alike answer whole READ_LIMIT refl (past whole) ∙ ap answer (some_is (take READ_LIMIT whole) bytes.items is)
-first_alike answer (None ∷ met) (bytes ∷ read) past (inl is, h) = absurd cc
-first_alike answer (None ∷ met) (bytes ∷ read) past (inr is, h) = absurd cc
+first_alike answer (under ∷ met) (bytes ∷ read) past h = file_alike answer under bytes.items past h.0
 first_alike answer [] (bytes ∷ read) past h = absurd h
 first_alike answer (under ∷ met) [] past h = absurd h
+
+-- So has each of several files.
+check_alike : (show : Bool) (names : List (List ℕ)) (met : List (Option (List ℕ))) (read : List (Vec ℕ Global)) → AreContents met read
+    → check_answer show names (contents met) ≡ check_answer show names (bytes_read read)
+check_alike show [] met read h = refl
+check_alike show (name ∷ names) [] [] h = refl
+check_alike show (name ∷ names) (under ∷ met) (bytes ∷ read) h =
+    let whole = unwrap_or under [] in
+    ap (checked_before name show whole (FirstBroken whole)) (check_alike show names met read h.1)
+    ∙ file_alike (λ b. checked_before name show b (FirstBroken b) (check_answer show names (bytes_read read))) under bytes.items
+    (λ b past. checked_cut name show (check_answer show names (bytes_read read)) b READ_LIMIT refl past) h.0
+check_alike show (name ∷ names) [] (bytes ∷ read) h = absurd h
+check_alike show (name ∷ names) (under ∷ met) [] h = absurd h
 
 bytes_alike : (command : Command) (words : List (List ℕ)) (met : List (Option (List ℕ))) (read : List (Vec ℕ Global)) → AreContents met read
     → bytes_answer command words (contents met) ≡ bytes_answer command words (bytes_read read)
@@ -72,8 +87,7 @@ bytes_alike (commands.List file) words met read h = first_alike (list_file_answe
 bytes_alike (commands.Il file method) words met read h =
     first_alike (il_file_answer (word_at words file) (word_at words method)) met read
     (λ bytes past. il_cut (word_at words file) (word_at words method) bytes READ_LIMIT refl past) h
-bytes_alike (commands.Check file show) words met read h =
-    first_alike (check_file_answer (word_at words file) show) met read (λ bytes past. check_cut (word_at words file) show bytes READ_LIMIT refl past) h
+bytes_alike (commands.Check check) words met read h = check_alike (is_some check.show) (words_at words (check_files check)) met read h
 bytes_alike (commands.Refute file method runs) words met read h =
     first_alike (refute_bytes_answer (word_at words file) (word_at words method) runs) met read
     (λ bytes past. refute_cut (word_at words file) (word_at words method) runs bytes READ_LIMIT refl past) h
@@ -89,19 +103,27 @@ unit_asked_cut bytes limit is past =
     let cut = le-leb READ_LIMIT (length (take limit bytes)) (omega (arith, length-take limit bytes)) in
     rw (whole, cut) refl
 
-abbrev check_file_asked : List ℕ → List (List ℕ)
-check_file_asked bytes = check_asked bytes (FirstBroken bytes)
-
-check_asked_cut : (bytes : List ℕ) (limit : ℕ) → limit ≡ READ_LIMIT → READ_LIMIT ≤ length bytes → check_file_asked bytes ≡ check_file_asked (take limit bytes)
-check_asked_cut bytes limit is past =
+keys_cut : (others : List (List ℕ)) (bytes : List ℕ) (limit : ℕ) → limit ≡ READ_LIMIT → READ_LIMIT ≤ length bytes
+    → keys_before bytes (FirstBroken bytes) others ≡ keys_before (take limit bytes) (FirstBroken (take limit bytes)) others
+keys_cut others bytes limit is past =
     let whole = large_first bytes past in
     let cut = large_first (take limit bytes) (omega (arith, length-take limit bytes)) in
     rw (whole, cut) refl
 
+keys_alike : (met : List (Option (List ℕ))) (read : List (Vec ℕ Global)) → AreContents met read → check_keys (contents met) ≡ check_keys (bytes_read read)
+keys_alike [] [] h = refl
+keys_alike (under ∷ met) (bytes ∷ read) h =
+    let whole = unwrap_or under [] in
+    ap (keys_before whole (FirstBroken whole)) (keys_alike met read h.1)
+    ∙ file_alike (λ b. keys_before b (FirstBroken b) (check_keys (bytes_read read))) under bytes.items
+    (λ b past. keys_cut (check_keys (bytes_read read)) b READ_LIMIT refl past) h.0
+keys_alike [] (bytes ∷ read) h = absurd h
+keys_alike (under ∷ met) [] h = absurd h
+
 asked_alike : (command : Command) (met : List (Option (List ℕ))) (read : List (Vec ℕ Global)) → AreContents met read
     → bytes_asked command (contents met) ≡ bytes_asked command (bytes_read read)
 asked_alike (commands.Unit file) met read h = first_alike unit_file_asked met read (λ bytes past. unit_asked_cut bytes READ_LIMIT refl past) h
-asked_alike (commands.Check file show) met read h = first_alike check_file_asked met read (λ bytes past. check_asked_cut bytes READ_LIMIT refl past) h
+asked_alike (commands.Check check) met read h = ap distinct (keys_alike met read h)
 asked_alike (commands.List file) met read h = refl
 asked_alike (commands.Il file method) met read h = refl
 asked_alike (commands.Run run) met read h = refl

@@ -1,78 +1,85 @@
--- Where the line that tells a method to be proved was printed in the report of its assembly, the method is safe.
-use Rattle.std.proofs.Common.{◌≡◌, ◌⊎◌, ℕ, List, [], ◌∷◌, ◌++◌, Option, Some, None, codes, refl, sym, ap, subst, ◌∙◌, get_or, arith, inl, inr}
-use Rattle.std.specs.Prelude.{Contains, IfSome}
-use Rattle.std.proofs.lemmas.List.{append_cancel_left}
-use Rattle.std.proofs.lemmas.Option.{same_Some}
-use Rattle.asm_image.specs.Faults.{FirstBroken}
+-- Where the section of an assembly has the line that tells a method to be proved, the method is safe.
+use Rattle.std.proofs.Common.{◌≡◌, ℕ, Bool, List, [], ◌∷◌, ◌++◌, Option, Some, None, slice_get, codes, sym, ap, subst, ◌∙◌, append_assoc}
+use Rattle.std.specs.Prelude.{Contains, IfSome, is_some, unwrap_or}
+use Rattle.std.proofs.lemmas.Option.{none-some}
 use Rattle.asm_image.specs.Rows.{methods_of}
 use Rattle.asm_image.specs.declared.method_row.MethodRow.{MethodRow}
+use Rattle.cc_base.specs.Digits.{hex}
 use Rattle.cc_base.specs.Files.{Held}
-use Rattle.cc_base.specs.Sink.{AppendsFront, IsFront, appended}
-use Rattle.cc_base.proofs.SinkLemmas.{appended-nil}
-use Rattle.check_driver.specs.CheckText.{check_text, method_line}
-use Rattle.check_driver.specs.Checked.{AsksToCheck, IfCheck, IsHeldReportable, IsReportable, IsSafeMethod, PrintsMethod}
-use Rattle.answer_lines.specs.Answers.{Answer}
-use Rattle.check_driver.specs.Expected.{bytes_answer, check_answer, command_answer, expected, files_answer, missing_or}
-use Rattle.check_driver.specs.Met.{AreUnder, first_missing}
-use Rattle.command_words.specs.Words.{command_files, command_of, file_indexes, file_names, word_at, words_at}
+use Rattle.command_words.specs.Words.{check_files, checked_files, command_of, words_at}
+use Rattle.command_words.specs.declared.check_words.CheckWords.{CheckWords}
 use Rattle.command_words.specs.declared.command.Command.{Command}
 use Rattle.command_words.specs.declared.command.Command.TheVariants as commands
-use Rattle.check_driver.proofs.PrintedSafety.{printed_method}
+use Rattle.check_driver.specs.Checked.{AreHeldBegun, IfCheck, IsReportable, IsSafeMethod, held_files}
+use Rattle.check_driver.specs.Headline.{IsAssemblyOf, WasAppended}
+use Rattle.check_driver.specs.Sections.{HasProvedLine, proved_line, section}
+use Rattle.check_driver.proofs.Members.{mapped_at}
+use Rattle.check_driver.proofs.PrintedSafety.{said_method}
+use Rattle.check_driver.proofs.ReportSections.{IsToldOf, begun_section, said_of}
+use Rattle.check_driver.proofs.Reported.{method_said, report_said}
 
--- What was appended is known from what was written before and after.
-pub same_appended : (old new : Option (List ℕ)) (front before text : List ℕ)
-    → new ≡ appended old front → old ≡ Some before → new ≡ Some (before ++ text) → front ≡ text
-same_appended old new front before text adds was is =
-    let both : Some (before ++ front) ≡ Some (before ++ text) = ap (λ (o : Option (List ℕ)). appended o front) (sym was) ∙ sym adds ∙ is in
-    append_cancel_left before front text (same_Some (before ++ front) (before ++ text) both)
+-- The reports of the files that these words name were begun as far as was written.
+abbrev pub AreBegunOf : Option Held → List (List ℕ) → Option (List ℕ) → Option (List ℕ) → Option Command → Type 0
+AreBegunOf told words old new command =
+    IfSome command (λ some. IfCheck some (λ check. AreHeldBegun told (is_some check.show) (words_at words (check_files check)) old new))
 
--- A text with the line of a method is not empty.
-no_line : (before behind : List ℕ) (method : MethodRow) → [] ≡ before ++ (method_line method.token.0 method.name (codes "proved") ++ behind) → ⊥
-no_line [] behind method e = let letters : 0 ≡ 109 = ap (λ (l : List ℕ). get_or l 0 0) e in omega (arith, letters)
-no_line (b ∷ before) behind method e = cc
+-- What is known of a call's assembly and of what was appended.
+pub record IsKnownOf (told : Option Held) (words : List (List ℕ)) (held : Held) (k : ℕ) (bytes text : List ℕ) (old new : Option (List ℕ)) : Type 0 where
+  pub told_is : told ≡ Some held
+  pub assembly : IsAssemblyOf words held k bytes
+  pub begun : AreBegunOf told words old new (command_of words)
+  pub appended : WasAppended old new text
 
-pub something_printed : (old new : Option (List ℕ)) (method : MethodRow) → new ≡ old → PrintsMethod old new method → ⊥
-something_printed old new method same prints =
-    let line = prints.line in
-    let nothing : [] ≡ prints.text = same_appended old new [] prints.before prints.text (same ∙ sym (appended-nil old)) prints.was prints.is in
-    no_line line.before line.behind method (nothing ∙ line.is)
+-- The report of the assembly, under this name, has the line.
+record IsSaid (bytes line : List ℕ) : Type 0 where
+  name : List ℕ
+  show : Bool
+  known : IsReportable bytes
+  has : Contains (report_said name show bytes) line
 
--- What is met is the file of a command that has one.
-pub file_asked : (words : List (List ℕ)) (command : Command) (file : ℕ) (held : Held) (bytes : List ℕ) (met : List (Option (List ℕ))) → file_indexes command ≡ file ∷ []
-    → held (word_at words file) ≡ Some bytes → command_of words ≡ Some command → AreUnder (Some held) (words_at words (file ∷ [])) met
-    → expected words met ≡ bytes_answer command words (bytes ∷ [])
-file_asked words command file held bytes (under ∷ []) one at asked (is, last) =
-    let met_is : under ≡ Some bytes = sym (is held refl) ∙ at in
-    ap (command_answer words (under ∷ [])) asked ∙ ap (λ (u : Option (List ℕ)). files_answer command words (u ∷ [])) met_is
-    ∙ ap (λ (indexes : List ℕ). missing_or (first_missing (words_at words indexes) (Some bytes ∷ [])) (bytes_answer command words (bytes ∷ []))) one
-file_asked words command file held bytes [] one at asked h = absurd h
-file_asked words command file held bytes (under ∷ other ∷ met) one at asked h = absurd h.1
+module _ (told : Option Held) (words : List (List ℕ)) (held : Held) (k : ℕ) (bytes text : List ℕ) (old new : Option (List ℕ))
+    (is : IsKnownOf told words held k bytes text old new) where
+  -- The file of that index is the assembly.
+  said_of_file : (show : Bool) (names : List (List ℕ)) (line : List ℕ) → slice_get names k ≡ Some is.assembly.name
+      → IsToldOf show (held_files held names) k line → IsSaid bytes line
+  said_of_file show names line kth found =
+      let name = is.assembly.name in
+      let there : (name, unwrap_or (held name) []) ≡ found.file = mapped_at (λ (n : List ℕ). (n, unwrap_or (held n) [])) names k name found.file kth found.kth in
+      let same : found.file ≡ (name, bytes) = sym there ∙ ap (λ (under : Option (List ℕ)). (name, unwrap_or under [])) is.assembly.is_held in
+      record {
+        name = name;
+        show = show;
+        known = subst (λ (file : List ℕ × List ℕ). IsReportable file.1) same found.known;
+        has = subst (λ (file : List ℕ × List ℕ). Contains (said_of show file) line) same found.has;
+      }
 
--- What was printed begins the report.
-front_of_check : (words : List (List ℕ)) (held : Held) (bytes : List ℕ) (met : List (Option (List ℕ))) (text : List ℕ) (asks : AsksToCheck words held bytes)
-    → AreUnder (Some held) (file_names words) met → FirstBroken bytes ≡ None → IsFront text (Answer.out (expected words met)) → IsFront text (check_text (word_at words asks.file) asks.show bytes)
-front_of_check words held bytes met text asks under accepted front =
-    let name = word_at words asks.file in
-    let here = subst (λ (command : Option Command). AreUnder (Some held) (command_files words command) met) asks.command under in
-    let answer = file_asked words (commands.Check asks.file asks.show) asks.file held bytes met refl asks.is_held asks.command here ∙ ap (check_answer name asks.show bytes) accepted in
-    subst (λ (a : Answer). IsFront text a.out) answer front
+  said_by : (line : List ℕ) → Contains (section k text) line → (command : Option Command) → slice_get (checked_files words command) k ≡ Some is.assembly.name
+      → AreBegunOf told words old new command → IsSaid bytes line
+  said_by line has (Some (commands.Check check)) kth begun =
+      let show = is_some check.show in
+      let names = words_at words (check_files check) in
+      said_of_file show names line kth (begun_section show (held_files held names) old new text k line (begun held is.told_is) is.appended has)
+  said_by line has (Some (commands.Unit file)) kth begun = absurd (none-some is.assembly.name kth)
+  said_by line has (Some (commands.List file)) kth begun = absurd (none-some is.assembly.name kth)
+  said_by line has (Some (commands.Il file method)) kth begun = absurd (none-some is.assembly.name kth)
+  said_by line has (Some (commands.Run run)) kth begun = absurd (none-some is.assembly.name kth)
+  said_by line has (Some (commands.Refute file method runs)) kth begun = absurd (none-some is.assembly.name kth)
+  said_by line has (Some (commands.Gen seed count)) kth begun = absurd (none-some is.assembly.name kth)
+  said_by line has None kth begun = absurd (none-some is.assembly.name kth)
 
-pub known_of : (told : Option Held) (words : List (List ℕ)) (held : Held) (bytes : List ℕ) → told ≡ Some held → AsksToCheck words held bytes
-    → IfSome (command_of words) (λ command. IfCheck command (λ file. IsHeldReportable told (word_at words file))) → IsReportable bytes
-known_of told words held bytes told_is asks known =
-    let here = subst (λ (command : Option Command). IfSome command (λ c. IfCheck c (λ file. IsHeldReportable told (word_at words file)))) asks.command known in
-    here held bytes told_is asks.is_held
+  said : (line : List ℕ) → Contains (section k text) line → IsSaid bytes line
+  said line has = said_by line has (command_of words) is.assembly.kth is.begun
 
--- A method is safe whose assembly was asked for and whose line was printed in the report, which tells it to be proved.
-pub printed_checked : (told : Option Held) (words : List (List ℕ)) (held : Held) (bytes : List ℕ) (method : MethodRow) (met : List (Option (List ℕ))) (old new : Option (List ℕ))
-    → told ≡ Some held → AsksToCheck words held bytes → AreUnder told (file_names words) met → AppendsFront old new (expected words met).out
-    → (new ≡ old) ⊎ IfSome (command_of words) (λ command. IfCheck command (λ file. IsHeldReportable told (word_at words file)))
-    → Contains (methods_of bytes) method → PrintsMethod old new method → IsSafeMethod bytes method
-printed_checked told words held bytes method met old new told_is asks under appends (inl same) has prints = absurd (something_printed old new method same prints)
-printed_checked told words held bytes method met old new told_is asks under (front, is_front, adds) (inr known) has prints =
-    let name = word_at words asks.file in
-    let can = known_of told words held bytes told_is asks known in
-    let here = subst (λ (t : Option Held). AreUnder t (file_names words) met) told_is under in
-    let same : front ≡ prints.text = same_appended old new front prints.before prints.text adds prints.was prints.is in
-    let begins = front_of_check words held bytes met prints.text asks here can.accepted (subst (λ (t : List ℕ). IsFront t (Answer.out (expected words met))) same is_front) in
-    printed_method name asks.show bytes prints.text method can.accepted can.runnable has prints.line begins
+  -- An assembly can be reported whose section has a line.
+  pub section_reportable : (line : List ℕ) → Contains (section k text) line → IsReportable bytes
+  section_reportable line has = IsSaid.known (said line has)
+
+  -- A method is safe whose line stands in the section of its assembly.
+  pub section_safe : (method : MethodRow) → Contains (methods_of bytes) method → HasProvedLine (section k text) method → IsSafeMethod bytes method
+  unfolding method_said
+  section_safe method has line =
+      let one = said (proved_line method) line in
+      let head = codes "method " ++ hex 8 method.token.0 ++ codes " " ++ method.name in
+      let same : proved_line method ≡ head ++ codes ": " ++ codes "proved" = sym (append_assoc head (codes ": ") (codes "proved")) in
+      said_method (IsSaid.name one) (IsSaid.show one) bytes method (IsReportable.accepted (IsSaid.known one)) (IsReportable.runnable (IsSaid.known one)) has
+      (subst (Contains (report_said (IsSaid.name one) (IsSaid.show one) bytes)) same (IsSaid.has one))

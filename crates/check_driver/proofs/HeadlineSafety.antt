@@ -12,16 +12,11 @@ use Rattle.asm_image.specs.Cells.{method_count}
 use Rattle.asm_image.specs.Faults.{FirstBroken}
 use Rattle.asm_image.specs.Rows.{method_row, methods_of, rows_of}
 use Rattle.asm_image.specs.declared.method_row.MethodRow.{MethodRow}
-use Rattle.cc_base.specs.Digits.{hex}
 use Rattle.cc_base.specs.Files.{Held}
-use Rattle.cc_base.specs.Sink.{AppendsFront}
 use Rattle.cc_base.specs.Tokens.{row_of, table_of}
 use Rattle.cil_model.specs.Runs.{LocalSafe, Safe}
 use Rattle.cil_model.specs.WellFormed.{IsWellFormed}
 use Rattle.cil_model.specs.declared.unit.Unit.{Unit as MethodUnit}
-use Rattle.command_words.specs.Words.{checked_files, command_of, file_names, word_at}
-use Rattle.command_words.specs.declared.command.Command.{Command}
-use Rattle.command_words.specs.declared.command.Command.TheVariants as commands
 use Rattle.metadata_tables.specs.Numbers.{method_def}
 use Rattle.unit_builder.specs.Meanings.{as_token}
 use Rattle.pe_reader.specs.Addresses.{metadata}
@@ -38,17 +33,12 @@ use Rattle.unit_builder.specs.declared.entry.Outcome.TheVariants.{Analysed, Skip
 use Rattle.unit_builder.proofs.ReachedWorlds.{AllAnalysed, each_of_world, world_agrees, world_begins}
 use Rattle.unit_builder.proofs.TokenLemmas.{named-among, token_at}
 use Rattle.unit_builder.proofs.VisitLemmas.{row_there, some_is}
-use Rattle.check_driver.specs.CheckText.{method_line}
-use Rattle.check_driver.specs.Checked.{AreRunnable, AsksToCheck, HasLine, IfCheck, IsHeldReportable, IsReportable, IsSafeMethod, PrintsMethod}
-use Rattle.check_driver.specs.Expected.{expected}
-use Rattle.check_driver.specs.Headline.{BeginsItsWorld, IsAssemblyOf, RunsKeepArrays, TellAllProved, WasAppended}
-use Rattle.check_driver.specs.Met.{AreUnder}
+use Rattle.check_driver.specs.Checked.{AreRunnable, IsReportable, IsSafeMethod}
+use Rattle.check_driver.specs.Headline.{BeginsItsWorld, RunsKeepArrays, TellAllProved}
 use Rattle.check_driver.specs.Sections.{HasProvedLine, proved_line, section}
-use Rattle.check_driver.proofs.CheckedSafety.{known_of, printed_checked, something_printed}
+use Rattle.check_driver.proofs.CheckedSafety.{IsKnownOf, section_reportable, section_safe}
 use Rattle.check_driver.proofs.FewMethods.{methods_are_few}
-use Rattle.check_driver.proofs.LinesOf.{section_line}
-use Rattle.check_driver.proofs.PrintedSafety.{all_at}
-use Rattle.answer_lines.proofs.WholeLines.{as_line}
+use Rattle.check_driver.proofs.Members.{all_at, contained_at}
 
 -- ---- the world of a method begins with its own unit
 
@@ -74,12 +64,6 @@ named_itself bytes method whole (index, below, same) =
     named_by (methods_of bytes) method.token.0 index table row ∙ at
 
 -- ---- the methods that tokens name
-
-contained_at : {X : Type 0} (xs : List X) (index : ℕ) (x : X) → slice_get xs index ≡ Some x → Contains xs x
-contained_at [] index x is = absurd (none-some x is)
-contained_at (y ∷ xs) zero x is = (0, omega arith, same_Some y x is)
-contained_at (y ∷ xs) (suc index) x is =
-    let (place, below, same) = contained_at xs index x is in (suc place, omega (arith, below), same)
 
 -- A token names a method of this row, which has that token.
 record IsNamed (bytes : List ℕ) (token : ℕ) (method : MethodRow) : Type 0 where
@@ -183,79 +167,24 @@ module _ (bytes : List ℕ) (method : MethodRow) (known : IsReportable bytes) (h
     results = runs_give_freely (world_of bytes from) (world_agrees bytes from all_analysed) all_formed;
   }
 
--- ---- the words
-
--- Today a check has one file, so that there is no second assembly.
-asks_to_check : (words : List (List ℕ)) (held : Held) (k : ℕ) (bytes : List ℕ) → IsAssemblyOf words held k bytes → AsksToCheck words held bytes
-asks_to_check words held k bytes is = by_command (command_of words) refl is.kth
-  where
-    only_file : (file k : ℕ) → slice_get (word_at words file ∷ []) k ≡ Some is.name → word_at words file ≡ is.name
-    only_file file zero same = same_Some (word_at words file) is.name same
-    only_file file (suc k) same = absurd cc
-
-    by_command : (command : Option Command) → command_of words ≡ command → slice_get (checked_files words command) k ≡ Some is.name → AsksToCheck words held bytes
-    by_command (Some (commands.Check file show)) same kth = record { file = file; show = show; command = same; is_held = ap held (only_file file k kth) ∙ is.is_held }
-    by_command (Some (commands.Unit file)) same kth = absurd (none-some is.name kth)
-    by_command (Some (commands.List file)) same kth = absurd (none-some is.name kth)
-    by_command (Some (commands.Il file method)) same kth = absurd (none-some is.name kth)
-    by_command (Some (commands.Run run)) same kth = absurd (none-some is.name kth)
-    by_command (Some (commands.Refute file method runs)) same kth = absurd (none-some is.name kth)
-    by_command (Some (commands.Gen seed count)) same kth = absurd (none-some is.name kth)
-    by_command None same kth = absurd (none-some is.name kth)
-
--- ---- the lines
-
--- The line of a section that tells a method to be proved is that of the report.
-has_method_line : (text : List ℕ) (method : MethodRow) → HasLine text (as_line (proved_line method)) → HasLine text (method_line method.token.0 method.name (codes "proved"))
-has_method_line text method has =
-    let head = codes "method " ++ hex 8 method.token.0 ++ codes " " ++ method.name in
-    let same : proved_line method ≡ head ++ codes ": " ++ codes "proved" = sym (append_assoc head (codes ": ") (codes "proved")) in
-    subst (λ (line : List ℕ). HasLine text (as_line line)) same has
-
 -- ---- the theorem
 
-reportable_of : (told : Option Held) (words : List (List ℕ)) (held : Held) (bytes : List ℕ) (method : MethodRow) (old new : Option (List ℕ)) → told ≡ Some held → AsksToCheck words held bytes
-    → (new ≡ old) ⊎ IfSome (command_of words) (λ command. IfCheck command (λ file. IsHeldReportable told (word_at words file))) → PrintsMethod old new method → IsReportable bytes
-reportable_of told words held bytes method old new told_is asks (inl same) prints = absurd (something_printed old new method same prints)
-reportable_of told words held bytes method old new told_is asks (inr known) prints = known_of told words held bytes told_is asks known
-
--- What is known of a call's assembly and of what was appended.
-pub record IsKnownOf (told : Option Held) (words : List (List ℕ)) (held : Held) (k : ℕ) (bytes text : List ℕ) (met : List (Option (List ℕ))) (old new : Option (List ℕ)) : Type 0 where
-  pub told_is : told ≡ Some held
-  pub assembly : IsAssemblyOf words held k bytes
-  pub under : AreUnder told (file_names words) met
-  pub appends : AppendsFront old new (expected words met).out
-  pub known : (new ≡ old) ⊎ IfSome (command_of words) (λ command. IfCheck command (λ file. IsHeldReportable told (word_at words file)))
-  pub appended : WasAppended old new text
-
-module _ (told : Option Held) (words : List (List ℕ)) (held : Held) (k : ℕ) (bytes text : List ℕ) (met : List (Option (List ℕ))) (old new : Option (List ℕ))
-    (is : IsKnownOf told words held k bytes text met old new) where
-  prints : (method : MethodRow) → HasProvedLine (section k text) method → PrintsMethod old new method
-  prints method line = record {
-    before = is.appended.before;
-    text = text;
-    was = is.appended.was;
-    is = is.appended.is;
-    line = has_method_line text method (section_line text k (proved_line method) line);
-  }
-
-  -- A method is safe whose line stands in the section of its assembly.
-  pub section_safe : (method : MethodRow) → Contains (methods_of bytes) method → HasProvedLine (section k text) method → IsSafeMethod bytes method
-  section_safe method has line =
-      printed_checked told words held bytes method met old new is.told_is (asks_to_check words held k bytes is.assembly) is.under is.appends is.known has (prints method line)
+module _ (told : Option Held) (words : List (List ℕ)) (held : Held) (k : ℕ) (bytes text : List ℕ) (old new : Option (List ℕ))
+    (is : IsKnownOf told words held k bytes text old new) where
+  safe : (method : MethodRow) → Contains (methods_of bytes) method → HasProvedLine (section k text) method → IsSafeMethod bytes method
+  safe = section_safe told words held k bytes text old new is
 
   reportable : (method : MethodRow) → Contains (methods_of bytes) method → TellAllProved (section k text) bytes method → IsReportable bytes
-  reportable method has all =
-      reportable_of told words held bytes method old new is.told_is (asks_to_check words held k bytes is.assembly) is.known (prints method (all method has itself))
+  reportable method has all = section_reportable told words held k bytes text old new is (proved_line method) (all method has itself)
 
   pub headline_safe : (method : MethodRow) → Contains (methods_of bytes) method → TellAllProved (section k text) bytes method
       → BeginsItsWorld bytes method × Safe (world_of bytes method.token.0) 0
   headline_safe method has all =
       let known = reportable method has all in
-      let each = λ reached among reaches. section_safe reached among (all reached among reaches) in
+      let each = λ reached among reaches. safe reached among (all reached among reaches) in
       (begins_world bytes method known has each, safe_in_world bytes method known has each)
 
   pub headline_keeps : (method : MethodRow) → Contains (methods_of bytes) method → TellAllProved (section k text) bytes method
       → RunsKeepArrays (world_of bytes method.token.0)
   headline_keeps method has all =
-      keeps_arrays bytes method (reportable method has all) has (λ reached among reaches. section_safe reached among (all reached among reaches))
+      keeps_arrays bytes method (reportable method has all) has (λ reached among reaches. safe reached among (all reached among reaches))

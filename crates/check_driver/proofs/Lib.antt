@@ -1,9 +1,12 @@
+pub mod Members
 pub mod Answering
 pub mod Asking
 pub mod UnitSafety
 pub mod UnitShapes
 pub mod CacheLemmas
 pub mod KeysAsked
+pub mod SeveralFiles
+pub mod OnlyFile
 pub mod CheckedSafety
 pub mod Reportable
 pub mod RefutedMethods
@@ -20,6 +23,8 @@ pub mod FoundWithin
 pub mod PrintedMethods
 pub mod PrintedSafety
 pub mod LinesOf
+pub mod SectionLemmas
+pub mod ReportSections
 mod SectionExamples
 pub mod HeadlineSafety
 pub mod ProvedUnits

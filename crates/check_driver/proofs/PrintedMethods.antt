@@ -1,4 +1,4 @@
--- Where the line that tells a method to be proved was printed in the report of its assembly, the method is safe.
+-- The lines of methods among those of a report, and what one that tells a method to be proved means.
 use Rattle.std.proofs.Common.{◌≡◌, ◌⊎◌, ℕ, zero, suc, ◌*◌, ◌/◌, ◌%◌, ◌<◌, ◌^◌, Bool, true, false, List, [], ◌∷◌, ◌++◌, length, map, get_or, refl, sym, ap, ◌∙◌, append_assoc, inl, inr, codes, arith}
 use Rattle.std.specs.Prelude.{Contains}
 use Rattle.std.specs.List.{flat_map}
@@ -19,30 +19,10 @@ use Rattle.unit_builder.specs.declared.entry.Outcome.TheVariants.{Analysed, Skip
 use Rattle.check_driver.specs.CheckText.{Finding, WithVerdicts, NotAnalysed, outcome_finding, is_proved, verdict_text}
 use Rattle.check_driver.specs.Checked.{IsSafeMethod}
 use Rattle.answer_lines.specs.Lines.{proved_text}
+use Rattle.check_driver.proofs.Members.{contains_behind, contains_first, none_contained}
 use Rattle.check_driver.proofs.Reported.{entry_said, finding_said, method_said, shown_said, verdict_said, verdicts_said}
 use Rattle.check_driver.proofs.ShownLines.{no_shown_line}
 use Rattle.cc_base.proofs.DigitLemmas.{length-hex}
-
--- ---- members of lists
-
-pub contains_first : {X : Type 0} (x y : X) (xs : List X) → Contains (x ∷ xs) y → (x ≡ y) ⊎ Contains xs y
-contains_first x y xs (zero, below, same) = inl same
-contains_first x y xs (suc k, below, same) = inr (k, omega (arith, below), same)
-
-pub contains_behind : {X : Type 0} (xs ys : List X) (y : X) → Contains (xs ++ ys) y → Contains xs y ⊎ Contains ys y
-contains_behind [] ys y has = inr has
-contains_behind (x ∷ xs) ys y has =
-    elim (contains_first x y (xs ++ ys) has) [
-      | inl same ↦ inl (0, omega arith, same)
-      | inr later ↦
-          elim (contains_behind xs ys y later) [
-            | inl (k, below, same) ↦ inl (suc k, omega (arith, below), same)
-            | inr other ↦ inr other
-          ]
-    ]
-
-pub none_contained : {X : Type 0} (y : X) → Contains [] y → ⊥
-none_contained y (k, below, same) = omega (arith, below)
 
 -- ---- numbers in base sixteen
 
@@ -130,7 +110,7 @@ none_of_finding (NotAnalysed reason) token name text has = none_contained _ has
 
 none_of_shown : (show : Bool) (outcome : Outcome) (token : ℕ) (name text : List ℕ) → Contains (shown_said show outcome) (method_said token name text) → ⊥
 unfolding shown_said method_said
-none_of_shown show outcome token name text has = no_shown_line show outcome _ refl has
+none_of_shown show outcome token name text has = no_shown_line show outcome _ (λ e. let letters : 109 ≡ 32 = e in omega (arith, letters)) has
 
 -- ---- the line among those of some rows
 

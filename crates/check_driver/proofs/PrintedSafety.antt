@@ -1,5 +1,5 @@
 -- A method is safe whose line in the report of its assembly tells it to be proved.
-use Rattle.std.proofs.Common.{◌≡◌, ℕ, zero, suc, ◌+◌, ◌<◌, ◌^◌, Bool, List, [], ◌∷◌, ◌++◌, map, get_or, None, refl, sym, ap, subst, ◌∙◌, append_assoc, inl, inr, codes, arith}
+use Rattle.std.proofs.Common.{◌≡◌, ℕ, zero, suc, ◌+◌, ◌<◌, ◌^◌, Bool, List, [], ◌∷◌, ◌++◌, get_or, None, refl, sym, ap, subst, inl, inr, codes, arith}
 use Rattle.std.specs.Prelude.{Contains}
 use Rattle.std.specs.List.{AllByRecursion, flat_map, range_with_len}
 use Rattle.asm_image.specs.Cells.{method_count}
@@ -7,41 +7,21 @@ use Rattle.asm_image.specs.Faults.{FirstBroken}
 use Rattle.asm_image.specs.Rows.{method_row, methods_of, rows_of}
 use Rattle.asm_image.specs.declared.method_row.MethodRow.{MethodRow}
 use Rattle.cc_base.specs.Escapes.{escaped}
-use Rattle.cc_base.specs.Sink.{IsFront}
 use Rattle.pe_reader.specs.Addresses.{metadata}
 use Rattle.method_unit.specs.Units.{IsUnit}
 use Rattle.unit_builder.specs.Outcomes.{IfAnalysed, entries_of, entry_of, outcome_of}
 use Rattle.unit_builder.specs.declared.entry.MethodEntry.{MethodEntry}
-use Rattle.check_driver.specs.CheckText.{all_counts, check_text, outcome_finding, method_line, verdict_text}
-use Rattle.check_driver.specs.Checked.{AreRunnable, HasLine, IsSafeMethod}
+use Rattle.check_driver.specs.CheckText.{all_counts, outcome_finding, verdict_text}
+use Rattle.check_driver.specs.Checked.{AreRunnable, IsSafeMethod}
 use Rattle.check_driver.proofs.FewMethods.{methods_are_few}
-use Rattle.check_driver.proofs.PrintedMethods.{among_rows, contains_behind, contains_first, behind_digits, none_contained, proved_tells, row_said, safe_by, same_said, same_text}
-use Rattle.check_driver.proofs.Reported.{entry_said, method_said, report_is_lines, report_said}
+use Rattle.check_driver.proofs.PrintedMethods.{among_rows, behind_digits, proved_tells, row_said, safe_by, same_said, same_text}
+use Rattle.check_driver.proofs.Members.{all_at, contains_behind, contains_first, contains_map, none_contained}
+use Rattle.check_driver.proofs.Reported.{entry_said, method_said, report_said}
 use Rattle.answer_lines.proofs.SingleLines.{summary_front, summary_said}
-use Rattle.check_driver.proofs.ReportTexts.{all_behind, assembly_one_line, proved_one_line, rows_one_line, summary_one_line}
-use Rattle.answer_lines.proofs.WholeLines.{IsOneLine, as_line, as_lines, line_among}
+use Rattle.check_driver.proofs.ReportTexts.{all_behind, assembly_one_line, rows_one_line, summary_one_line}
+use Rattle.answer_lines.proofs.WholeLines.{IsOneLine}
 
 -- ---- rows
-
--- An element of what a list is mapped to comes of an element of the list.
-contains_map : {X Y : Type 0} (f : X → Y) (xs : List X) (y : Y) → Contains (map f xs) y → (x : X) × Contains xs x × (f x ≡ y)
-contains_map f [] y has = absurd (none_contained y has)
-contains_map f (x ∷ xs) y has =
-    elim (contains_first (f x) y (map f xs) has) [
-      | inl same ↦ (x, (0, omega arith, refl), same)
-      | inr later ↦
-          let there = contains_map f xs y later in
-          (there.0, (suc there.1.0, omega (arith, there.1.1), there.1.2), there.2)
-    ]
-
--- What holds of all that a list is mapped to holds of what each element is.
-pub all_at : {X Y : Type 0} (P : Y → Type 0) (f : X → Y) (xs : List X) (x : X) → AllByRecursion P (map f xs) → Contains xs x → P (f x)
-all_at P f [] x all has = absurd (none_contained x has)
-all_at P f (other ∷ xs) x all has =
-    elim (contains_first other x xs has) [
-      | inl same ↦ subst (λ z. P (f z)) same all.0
-      | inr later ↦ all_at P f xs x all.1 later
-    ]
 
 range_below : (first count row : ℕ) → Contains (range_with_len first count) row → row < first + count
 range_below first zero row has = absurd (none_contained row has)
@@ -53,16 +33,7 @@ range_below first (suc count) row has =
 
 -- ---- the line
 
--- A whole line of a prefix of the report is one of its lines.
-line_of_report : (name : List ℕ) (show : Bool) (bytes text line : List ℕ) → AllByRecursion IsOneLine (report_said name show bytes) → IsOneLine line → HasLine text (as_line line)
-    → IsFront text (check_text name show bytes) → Contains (report_said name show bytes) line
-line_of_report name show bytes text line all one has (rest, is) =
-    let aligned : as_lines (report_said name show bytes) ≡ has.before ++ (as_line line ++ (has.behind ++ rest)) =
-    report_is_lines name show bytes ∙ is ∙ ap (λ (l : List ℕ). l ++ rest) has.is ∙ append_assoc has.before (as_line line ++ has.behind) rest
-    ∙ ap (λ (l : List ℕ). has.before ++ l) (append_assoc (as_line line) has.behind rest) in
-    line_among (report_said name show bytes) has.before line (has.behind ++ rest) all one has.begins aligned
-
-report_one_line : (name : List ℕ) (show : Bool) (bytes : List ℕ) → AreRunnable bytes
+pub report_one_line : (name : List ℕ) (show : Bool) (bytes : List ℕ) → AreRunnable bytes
     → AllByRecursion IsOneLine (report_said name show bytes)
 unfolding report_said entries_of rows_of
 report_one_line name show bytes runnable = (
@@ -109,19 +80,18 @@ same_row bytes row other text small few e =
           (subst (λ (r : ℕ). behind_digits (method_row (metadata bytes) r).name (verdict_text (outcome_finding (outcome_of bytes (method_row (metadata bytes) r)))) ≡ behind_digits mine.name text) same both.1),
     )
 
-pub printed_method : (name : List ℕ) (show : Bool) (bytes text : List ℕ) (method : MethodRow) → FirstBroken bytes ≡ None → AreRunnable bytes
-    → Contains (methods_of bytes) method → HasLine text (method_line method.token.0 method.name (codes "proved")) → IsFront text (check_text name show bytes) → IsSafeMethod bytes method
-unfolding entries_of rows_of row_said method_said method_row
-printed_method name show bytes text method whole runnable has line front =
+-- A method is safe that is told to be proved by one of the lines of the report of its assembly.
+pub said_method : (name : List ℕ) (show : Bool) (bytes : List ℕ) (method : MethodRow) → FirstBroken bytes ≡ None → AreRunnable bytes
+    → Contains (methods_of bytes) method → Contains (report_said name show bytes) (method_said method.token.0 method.name (codes "proved")) → IsSafeMethod bytes method
+unfolding entries_of rows_of row_said method_row
+said_method name show bytes method whole runnable has line =
     let md = metadata bytes in
     let rows = range_with_len 1 (method_count md) in
     let mine = contains_map (method_row md) rows method has in
     let few = methods_are_few bytes whole in
     let row = mine.0 in
-    let is_line : HasLine text (as_line (method_said (method_row md row).token.0 (method_row md row).name (codes "proved"))) =
-    subst (λ (m : MethodRow). HasLine text (method_line m.token.0 m.name (codes "proved"))) (sym mine.2) line in
-    let found = line_of_report name show bytes text (method_said (method_row md row).token.0 (method_row md row).name (codes "proved"))
-    (report_one_line name show bytes runnable) (proved_one_line (method_row md row).token.0 md row) is_line front in
+    let found : Contains (report_said name show bytes) (method_said (method_row md row).token.0 (method_row md row).name (codes "proved")) =
+    subst (λ (m : MethodRow). Contains (report_said name show bytes) (method_said m.token.0 m.name (codes "proved"))) (sym mine.2) line in
     let told = row_of_report name show bytes (method_row md row).token.0 (method_row md row).name (codes "proved") found in
     let same = same_row bytes row told.0 (codes "proved") (omega (arith, few, range_below 1 (method_count md) row mine.1)) (omega (arith, few, range_below 1 (method_count md) told.0 told.1)) told.2 in
     let is_runnable = all_at (λ (entry : MethodEntry). IfAnalysed entry.outcome IsUnit) (entry_of bytes) (methods_of bytes) (method_row md row) runnable (subst (Contains (methods_of bytes)) (sym mine.2) has) in

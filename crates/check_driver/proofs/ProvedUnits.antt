@@ -26,7 +26,7 @@ use Rattle.check_driver.specs.Met.{AreUnder}
 use Rattle.check_driver.specs.ProvedUnit.{AreSpelled, AsksForUnit, IfUnit, IsHeldSpelled, PrintsProvedUnit, SpellSafeUnit}
 use Rattle.check_driver.specs.ReportText.{unit_counts, unit_report, verdict_line}
 use Rattle.check_driver.specs.Sections.{lines_of}
-use Rattle.check_driver.proofs.CheckedSafety.{file_asked, same_appended}
+use Rattle.check_driver.proofs.OnlyFile.{file_asked, same_appended}
 use Rattle.check_driver.proofs.LinesOf.{first_line}
 use Rattle.check_driver.proofs.PrintedMethods.{same_parts}
 

@@ -26,7 +26,7 @@ use Rattle.assembly_answers.specs.declared.method_world.NoWorld.TheVariants.{NoM
 use Rattle.check_driver.specs.Expected.{expected}
 use Rattle.check_driver.specs.Met.{AreUnder}
 use Rattle.check_driver.specs.Refuted.{AsksToRefute, PrintsRefuted}
-use Rattle.check_driver.proofs.CheckedSafety.{file_asked, same_appended}
+use Rattle.check_driver.proofs.OnlyFile.{file_asked, same_appended}
 
 -- The text begins as the line of arguments.
 abbrev BeginsRefuted : List ℕ → List ℕ → Type 0

@@ -1,7 +1,6 @@
 -- No text of a report's lines has a line feed.
-use Rattle.std.proofs.Common.{◌≡◌, ℕ, Bool, true, List, [], ◌∷◌, ◌++◌, map, refl, codes}
+use Rattle.std.proofs.Common.{◌≡◌, ℕ, Bool, List, [], ◌∷◌, ◌++◌, map, refl, codes}
 use Rattle.std.specs.List.{AllByRecursion, flat_map}
-use Rattle.asm_image.specs.Names.{printed_name}
 use Rattle.asm_image.specs.Rows.{method_row}
 use Rattle.cc_base.specs.Digits.{hex}
 use Rattle.cc_base.specs.Escapes.{escaped}
@@ -108,8 +107,3 @@ none_in_assembly name = none_behind (codes "assembly ") (escaped name) refl (non
 
 pub assembly_one_line : (name : List ℕ) → IsOneLine (codes "assembly " ++ escaped name)
 assembly_one_line name = one_line (codes "assembly " ++ escaped name) (none_in_assembly name)
-
-pub proved_one_line : (token : ℕ) (md : List ℕ) (row : ℕ) → IsOneLine (method_said token (printed_name md row) (codes "proved"))
-proved_one_line token md row =
-    one_line (method_said token (printed_name md row) (codes "proved"))
-    (none_in_method token (printed_name md row) (codes "proved") (none_in_printed md row) (none_in_verdict true))

@@ -46,7 +46,7 @@ report_said name show bytes =
 
 -- ---- lines of lists
 
-lines_behind : (a b : List (List ℕ)) → as_lines (a ++ b) ≡ as_lines a ++ as_lines b
+pub lines_behind : (a b : List (List ℕ)) → as_lines (a ++ b) ≡ as_lines a ++ as_lines b
 lines_behind [] b = refl
 lines_behind (text ∷ a) b = ap (λ (l : List ℕ). as_line text ++ l) (lines_behind a b) ∙ sym (append_assoc (as_line text) (as_lines a) (as_lines b))
 

@@ -5,7 +5,7 @@ use Rattle.asm_image.specs.declared.method_row.MethodRow.{MethodRow}
 use Rattle.cc_base.specs.Digits.{hex}
 use Rattle.check_driver.specs.CheckText.{assembly_line, method_line}
 use Rattle.check_driver.specs.Sections.{HasProvedLine, begins_section, lines_of, proved_line, section, sections_of}
-use Rattle.check_driver.proofs.PrintedMethods.{contains_first, none_contained}
+use Rattle.check_driver.proofs.Members.{contains_first, none_contained}
 
 -- A line feed ends a line, and what stands after the last one is none. A line may be empty.
 two_lines : lines_of (codes "ab\n\nc\nd") ≡ codes "ab" ∷ [] ∷ codes "c" ∷ []

@@ -1,5 +1,5 @@
 -- What is shown of an invariant is whole lines, and each begins with a space.
-use Rattle.std.proofs.Common.{◌≡◌, ℕ, zero, suc, ◌==◌, not, Bool, true, false, List, [], ◌∷◌, ◌++◌, if◌then◌else◌, get_or, refl, ap, ◌∙◌, subst, append_assoc, arith}
+use Rattle.std.proofs.Common.{◌≡◌, ◌≢◌, ℕ, zero, suc, ◌==◌, not, Bool, true, false, List, [], ◌∷◌, ◌++◌, if◌then◌else◌, get_or, refl, sym, ap, ◌∙◌, subst, append_assoc, arith}
 use Rattle.std.specs.Prelude.{Contains}
 use Rattle.std.proofs.lemmas.Bool.{and_parts, ne_eqb}
 use Rattle.invariant_checker.specs.Inducts.{has_shape}
@@ -40,12 +40,12 @@ are_lines _ (more line rest plain others) =
     ∙ append_assoc (32 ∷ line) (10 ∷ []) (as_lines (lines_of rest)) ∙ ap (λ (l : List ℕ). (32 ∷ line) ++ 10 ∷ l) (are_lines rest others)
 
 -- A line that does not begin with a space is behind one that does.
-behind_first : (first line : List ℕ) (lines : List (List ℕ)) → get_or line 0 0 ≡ 109 → Contains ((32 ∷ first) ∷ lines) line → Contains lines line
+behind_first : (first line : List ℕ) (lines : List (List ℕ)) → get_or line 0 0 ≢ 32 → Contains ((32 ∷ first) ∷ lines) line → Contains lines line
 behind_first first line lines letter (zero, below, same) =
-    absurd (let letters : 32 ≡ 109 = ap (λ (l : List ℕ). get_or l 0 0) same ∙ letter in omega (arith, letters))
+    absurd (letter (sym (ap (λ (l : List ℕ). get_or l 0 0) same)))
 behind_first first line lines letter (suc k, below, same) = (k, omega (arith, below), same)
 
-no_other : (text line : List ℕ) → AreIndented text → get_or line 0 0 ≡ 109 → Contains (lines_of text) line → ⊥
+no_other : (text line : List ℕ) → AreIndented text → get_or line 0 0 ≢ 32 → Contains (lines_of text) line → ⊥
 no_other _ line none letter (k, below, same) = omega (arith, below)
 no_other _ line (more first rest plain others) letter has =
     let one = one_line first plain in
@@ -70,6 +70,6 @@ shown_indented show (Skipped reason) = none
 pub shown_are_lines : (show : Bool) (outcome : Outcome) → as_lines (lines_of (outcome_shown show outcome)) ≡ outcome_shown show outcome
 shown_are_lines show outcome = are_lines (outcome_shown show outcome) (shown_indented show outcome)
 
--- No line of it is that of a method, which begins with another letter.
-pub no_shown_line : (show : Bool) (outcome : Outcome) (line : List ℕ) → get_or line 0 0 ≡ 109 → Contains (lines_of (outcome_shown show outcome)) line → ⊥
+-- No line of it begins with another byte.
+pub no_shown_line : (show : Bool) (outcome : Outcome) (line : List ℕ) → get_or line 0 0 ≢ 32 → Contains (lines_of (outcome_shown show outcome)) line → ⊥
 no_shown_line show outcome line letter has = no_other (outcome_shown show outcome) line (shown_indented show outcome) letter has

@@ -53,7 +53,7 @@ pub held_spelled : (files : Option Held) (command : Command) (words : List (List
     → same ⊎ IfUnit command (λ file. IsHeldSpelled files (word_at words file))
 held_spelled files command words met read same under contents (inl is) = inl is
 held_spelled files (commands.Unit file) words met read same under contents (inr known) = inr (one_spelled files (word_at words file) met read under contents known)
-held_spelled files (commands.Check file show) words met read same under contents (inr known) = inr tt
+held_spelled files (commands.Check check) words met read same under contents (inr known) = inr tt
 held_spelled files (commands.List file) words met read same under contents (inr known) = inr tt
 held_spelled files (commands.Il file method) words met read same under contents (inr known) = inr tt
 held_spelled files (commands.Run run) words met read same under contents (inr known) = inr tt

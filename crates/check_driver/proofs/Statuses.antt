@@ -1,10 +1,11 @@
 -- No answer has a status that tells an interruption, and only words that are no command are answered by the usage.
-use Rattle.std.proofs.Common.{◌≡◌, ◌≢◌, ℕ, Bool, true, false, List, Option, Some, None, Result, Ok, Err, if◌then◌else◌, nat_le, length, refl, sym, ◌∙◌, inl, inr, arith}
+use Rattle.std.proofs.Common.{◌≡◌, ◌≢◌, ℕ, max, Bool, true, false, List, [], ◌∷◌, is_some, Option, Some, None, Result, Ok, Err, if◌then◌else◌, nat_le, length, refl, sym, subst, ◌∙◌, inl, inr, arith}
 use Rattle.std.specs.Prelude.{IfOk}
+use Rattle.std.proofs.lemmas.Bool.{cases_lt}
 use Rattle.asm_image.specs.Faults.{FirstBroken}
 use Rattle.asm_image.specs.declared.fault.AsmFault.{AsmFault}
 use Rattle.cc_base.specs.Files.{READ_LIMIT}
-use Rattle.command_words.specs.Words.{args_told, command_of, file_indexes, word_at, words_at}
+use Rattle.command_words.specs.Words.{args_told, check_files, command_of, file_indexes, word_at, words_at}
 use Rattle.command_words.specs.declared.command.Command.{Command}
 use Rattle.command_words.specs.declared.command.Command.TheVariants as commands
 use Rattle.method_unit.specs.UnitFile.{first_unit_fault, unit_of}
@@ -20,7 +21,7 @@ use Rattle.answer_lines.proofs.Leaving.{IsUninterrupted}
 use Rattle.assembly_answers.proofs.Statuses.{IsOfBytes, of_few, of_il, of_list, of_refused, of_refute_file, of_run_file, plain_below}
 use Rattle.check_driver.specs.Analysis.{unit_verdicts}
 use Rattle.check_driver.specs.CheckText.{all_methods_proved}
-use Rattle.check_driver.specs.Expected.{bytes_answer, check_answer, command_answer, expected, file_at, missing_or, unit_answer, unit_file_answer}
+use Rattle.check_driver.specs.Expected.{bytes_answer, check_answer, checked_before, command_answer, expected, file_at, missing_or, unit_answer, unit_file_answer}
 use Rattle.check_driver.specs.Met.{contents, first_missing}
 
 of_report : (proved : Bool) → IsOfBytes (if proved then 0 else 1)
@@ -40,15 +41,30 @@ of_unit_file : (name bytes : List ℕ) → IsOfBytes (unit_file_answer name byte
 of_unit_file name bytes =
     of_either (nat_le READ_LIMIT (length bytes)) _ (unit_answer name bytes (first_unit_fault bytes)) of_refused (of_unit name bytes (first_unit_fault bytes))
 
-of_check : (name : List ℕ) (show : Bool) (bytes : List ℕ) (fault : Option AsmFault) → IsOfBytes (check_answer name show bytes fault).status
-of_check name show bytes None = of_report (all_methods_proved bytes)
-of_check name show bytes (Some fault) = of_refused
+-- The greater of two is one of them.
+of_greater : (a b : ℕ) → IsOfBytes a → IsOfBytes b → IsOfBytes (max a b)
+of_greater a b one other =
+    elim (cases_lt a b) [
+      | inl less ↦ let is : b ≡ max a b = omega (arith, less) in subst IsOfBytes is other
+      | inr not_less ↦ let is : a ≡ max a b = omega (arith, not_less) in subst IsOfBytes is one
+    ]
+
+of_checked : (name : List ℕ) (show : Bool) (bytes : List ℕ) (fault : Option AsmFault) (others : Answer) → IsOfBytes others.status
+    → IsOfBytes (checked_before name show bytes fault others).status
+of_checked name show bytes None others of = of_greater (if all_methods_proved bytes then 0 else 1) others.status (of_report (all_methods_proved bytes)) of
+of_checked name show bytes (Some fault) others of = of_refused
+
+of_check : (show : Bool) (names files : List (List ℕ)) → IsOfBytes (check_answer show names files).status
+of_check show [] files = of_few 0 (omega arith)
+of_check show (name ∷ names) [] = of_few 0 (omega arith)
+of_check show (name ∷ names) (bytes ∷ files) =
+    of_checked name show bytes (FirstBroken bytes) (check_answer show names files) (of_check show names files)
 
 of_bytes : (command : Command) (words files : List (List ℕ)) → IsOfBytes (bytes_answer command words files).status
 of_bytes (commands.Unit file) words files = of_unit_file (word_at words file) (file_at files 0)
 of_bytes (commands.List file) words files = of_list (word_at words file) (file_at files 0) (FirstBroken (file_at files 0))
 of_bytes (commands.Il file method) words files = of_il (word_at words file) (word_at words method) (file_at files 0) (FirstBroken (file_at files 0))
-of_bytes (commands.Check file show) words files = of_check (word_at words file) show (file_at files 0) (FirstBroken (file_at files 0))
+of_bytes (commands.Check check) words files = of_check (is_some check.show) (words_at words (check_files check)) files
 of_bytes (commands.Run run) words files =
     of_run_file (word_at words run.file) (word_at words run.method) (args_told run words) run.steps (file_at files 0) (FirstBroken (file_at files 0))
 of_bytes (commands.Refute file method runs) words files =

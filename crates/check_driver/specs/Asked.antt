@@ -48,10 +48,16 @@ judged_keys entries = flat_map (λ entry. outcome_key entry.outcome) entries
 unfoldable pub units_asked : List ℕ → List (List ℕ)
 units_asked bytes = distinct (judged_keys (entries_of bytes))
 
--- For the report of an assembly whose file has this first fault, or none.
-abbrev pub check_asked : List ℕ → Option AsmFault → List (List ℕ)
-check_asked bytes (Some fault) = []
-check_asked bytes None = units_asked bytes
+-- The units of an assembly whose file has this first fault, or none, and those of the assemblies after it. One that is
+-- refused ends the check.
+abbrev pub keys_before : List ℕ → Option AsmFault → List (List ℕ) → List (List ℕ)
+keys_before bytes (Some fault) others = []
+keys_before bytes None others = judged_keys (entries_of bytes) ++ others
+
+-- The units that are judged for the reports of assemblies with these bytes, in order.
+abbrev pub check_keys : List (List ℕ) → List (List ℕ)
+check_keys [] = []
+check_keys (bytes ∷ files) = keys_before bytes (FirstBroken bytes) (check_keys files)
 
 -- For the report of a unit whose file has this first fault, or none.
 abbrev pub unit_asked : List ℕ → Option UnitFault → List (List ℕ)
@@ -66,7 +72,7 @@ unit_file_asked bytes = if nat_le READ_LIMIT (length bytes) then [] else unit_as
 -- For a command and the bytes of its files, in order.
 abbrev pub bytes_asked : Command → List (List ℕ) → List (List ℕ)
 bytes_asked (commands.Unit file) files = unit_file_asked (file_at files 0)
-bytes_asked (commands.Check file show) files = check_asked (file_at files 0) (FirstBroken (file_at files 0))
+bytes_asked (commands.Check check) files = distinct (check_keys files)
 bytes_asked (commands.Gen seed count) files = units_asked (generated_file seed count)
 bytes_asked _ files = []
 

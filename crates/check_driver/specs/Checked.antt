@@ -1,11 +1,12 @@
--- What a printed `proved` means for a method of an assembly.
-use Rattle.std.specs.Prelude.{None, ◌≡◌, ◌⊎◌, ℕ, Bool, List, [], ◌++◌, Option, Some, codes}
-use Rattle.std.specs.List.{AllByRecursion}
+-- What is known of the assemblies of a check.
+use Rattle.std.specs.Prelude.{◌≡◌, ℕ, Bool, List, [], map, take, Option, Some, None, unwrap_or}
+use Rattle.std.specs.List.{AllByRecursion, flat_map}
 use Rattle.asm_image.specs.Faults.{FirstBroken}
 use Rattle.asm_image.specs.declared.method_row.MethodRow.{MethodRow}
 use Rattle.cc_base.specs.Files.{Held}
-use Rattle.check_driver.specs.CheckText.{method_line}
-use Rattle.command_words.specs.Words.{command_of, word_at}
+use Rattle.cc_base.specs.Sink.{AppendsFront}
+use Rattle.check_driver.specs.CheckText.{check_text}
+use Rattle.command_words.specs.declared.check_words.CheckWords.{CheckWords}
 use Rattle.command_words.specs.declared.command.Command.{Command}
 use Rattle.command_words.specs.declared.command.Command.TheVariants as commands
 use Rattle.cil_model.specs.declared.unit.Unit.{Unit as MethodUnit}
@@ -13,32 +14,6 @@ use Rattle.invariant_checker.specs.Safety.{IsSafe}
 use Rattle.method_unit.specs.Units.{IsUnit}
 use Rattle.unit_builder.specs.Outcomes.{IfAnalysed, entries_of, outcome_of}
 use Rattle.unit_builder.specs.declared.entry.Outcome.TheVariants.{Analysed}
-
--- The words ask for the report of a file, and these are the bytes held.
-pub record AsksToCheck (words : List (List ℕ)) (held : Held) (bytes : List ℕ) : Type 0 where
-  pub file : ℕ
-  pub show : Bool
-  pub command : command_of words ≡ Some (commands.Check file show)
-  pub is_held : held (word_at words file) ≡ Some bytes
-
--- A line begins after this: nothing stands before it, or a whole line.
-abbrev pub EndsLine : List ℕ → Type 0
-EndsLine before = (before ≡ []) ⊎ ((lines : List ℕ) × (before ≡ lines ++ codes "\n"))
-
--- The text has the whole line.
-pub record HasLine (text line : List ℕ) : Type 0 where
-  pub before : List ℕ
-  pub behind : List ℕ
-  pub is : text ≡ before ++ (line ++ behind)
-  pub begins : EndsLine before
-
--- What was appended to a sink has the line that tells the method to be proved.
-pub record PrintsMethod (old new : Option (List ℕ)) (method : MethodRow) : Type 0 where
-  pub before : List ℕ
-  pub text : List ℕ
-  pub was : old ≡ Some before
-  pub is : new ≡ Some (before ++ text)
-  pub line : HasLine text (method_line method.token.0 method.name (codes "proved"))
 
 -- The method is analysed, and its unit is safe.
 pub record IsSafeMethod (bytes : List ℕ) (method : MethodRow) : Type 0 where
@@ -55,11 +30,27 @@ pub record IsReportable (bytes : List ℕ) : Type 0 where
   pub accepted : FirstBroken bytes ≡ None
   pub runnable : AreRunnable bytes
 
--- What is held under the name can be reported, where that is told.
-abbrev pub IsHeldReportable : Option Held → List ℕ → Type 0
-IsHeldReportable told name = (held : Held) (bytes : List ℕ) → told ≡ Some held → held name ≡ Some bytes → IsReportable bytes
+-- ---- the files of a check, each with its name
 
--- This holds of the file's index where the command asks for the report of an assembly.
-abbrev pub IfCheck : Command → (ℕ → Type 0) → Type 0
-IfCheck (commands.Check file show) P = P file
+abbrev pub report_of : Bool → List ℕ × List ℕ → List ℕ
+report_of show (name, bytes) = check_text name show bytes
+
+-- The reports of so many of these files were begun: what was appended to a sink is a front of these reports, one after
+-- another, and each of the files is an assembly that can be reported.
+pub record AreBegun (show : Bool) (files : List (List ℕ × List ℕ)) (old new : Option (List ℕ)) : Type 0 where
+  pub count : ℕ
+  pub each : AllByRecursion (λ file. IsReportable file.1) (take count files)
+  pub front : AppendsFront old new (flat_map (report_of show) (take count files))
+
+-- What is held under these names, each with its name.
+abbrev pub held_files : Held → List (List ℕ) → List (List ℕ × List ℕ)
+held_files held names = map (λ name. (name, unwrap_or (held name) [])) names
+
+-- The same of what is held under the names, where that is told.
+abbrev pub AreHeldBegun : Option Held → Bool → List (List ℕ) → Option (List ℕ) → Option (List ℕ) → Type 0
+AreHeldBegun told show names old new = (held : Held) → told ≡ Some held → AreBegun show (held_files held names) old new
+
+-- This holds of the words of a check, where the command is one.
+abbrev pub IfCheck : Command → (CheckWords → Type 0) → Type 0
+IfCheck (commands.Check check) P = P check
 IfCheck _ P = Unit {0}

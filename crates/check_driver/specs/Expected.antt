@@ -1,5 +1,5 @@
 -- What a call of the program gives where nothing interrupts it.
-use Rattle.std.specs.Prelude.{ℕ, Bool, List, [], length, Option, Some, None, nat_le, if◌then◌else◌, codes, slice_index_or}
+use Rattle.std.specs.Prelude.{ℕ, Bool, List, [], ◌∷◌, ◌++◌, length, max, Option, Some, None, is_some, nat_le, if◌then◌else◌, codes, slice_index_or}
 use Rattle.asm_image.specs.Faults.{FirstBroken}
 use Rattle.asm_image.specs.declared.fault.AsmFault.{AsmFault}
 use Rattle.cc_base.specs.Files.{READ_LIMIT}
@@ -16,7 +16,7 @@ use Rattle.assembly_answers.specs.Answers.{il_answer, list_answer, refute_file_a
 use Rattle.assembly_answers.specs.FaultText.{unit_fault_text, assembly_fault_text}
 use Rattle.check_driver.specs.Met.{first_missing, contents}
 use Rattle.check_driver.specs.ReportText.{unit_report}
-use Rattle.command_words.specs.Words.{args_told, command_of, file_indexes, word_at, words_at}
+use Rattle.command_words.specs.Words.{args_told, check_files, command_of, file_indexes, word_at, words_at}
 use Rattle.command_words.specs.declared.command.Command.{Command}
 use Rattle.command_words.specs.declared.command.Command.TheVariants as commands
 use Rattle.written_assemblies.specs.GeneratedFiles.{generated_file}
@@ -35,10 +35,20 @@ unit_file_answer name bytes =
     if nat_le READ_LIMIT (length bytes) then refused_answer name (codes "file too large") MAX_FILE_BYTES
     else unit_answer name bytes (first_unit_fault bytes)
 
--- The answer to `check FILE`, with `--show` or without, for the bytes of the file, which have this first fault or none.
-abbrev pub check_answer : List ℕ → Bool → List ℕ → Option AsmFault → Answer
-check_answer name show bytes (Some fault) = refused_answer name (assembly_fault_text fault.cause) fault.at
-check_answer name show bytes None = output_answer (if all_methods_proved bytes then 0 else 1) (check_text name show bytes)
+-- The answer to a check whose first assembly has this name and these bytes, which have this first fault or none; the last
+-- is the answer for the assemblies after it. One that is refused ends the answer.
+abbrev pub checked_before : List ℕ → Bool → List ℕ → Option AsmFault → Answer → Answer
+checked_before name show bytes (Some fault) others = refused_answer name (assembly_fault_text fault.cause) fault.at
+checked_before name show bytes None others = record {
+  out = check_text name show bytes ++ others.out;
+  err = others.err;
+  status = max (if all_methods_proved bytes then 0 else 1) others.status;
+}
+
+-- The answer to `check FILE..`, with `--show` or without, for the names of the files and their bytes.
+abbrev pub check_answer : Bool → List (List ℕ) → List (List ℕ) → Answer
+check_answer show (name ∷ names) (bytes ∷ files) = checked_before name show bytes (FirstBroken bytes) (check_answer show names files)
+check_answer show _ _ = output_answer 0 []
 
 -- The answer to `gen SEED COUNT` for the bytes of the file that is generated: the summary alone.
 abbrev pub gen_answer : List ℕ → Answer
@@ -56,8 +66,7 @@ bytes_answer (commands.Unit file) words files = unit_file_answer (word_at words 
 bytes_answer (commands.List file) words files = list_answer (word_at words file) (file_at files 0) (FirstBroken (file_at files 0))
 bytes_answer (commands.Il file method) words files =
     il_answer (word_at words file) (word_at words method) (file_at files 0) (FirstBroken (file_at files 0))
-bytes_answer (commands.Check file show) words files =
-    check_answer (word_at words file) show (file_at files 0) (FirstBroken (file_at files 0))
+bytes_answer (commands.Check check) words files = check_answer (is_some check.show) (words_at words (check_files check)) files
 bytes_answer (commands.Run run) words files =
     run_file_answer (word_at words run.file) (word_at words run.method) (args_told run words) run.steps (file_at files 0) (FirstBroken (file_at files 0))
 bytes_answer (commands.Refute file method runs) words files =

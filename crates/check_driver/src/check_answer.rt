@@ -1,20 +1,22 @@
-//! The answer to `check FILE`, with `--show` or without.
+//! The answer to `check FILE..`, with `--show` or without.
 
 #![tactic(auto, using(cc_base::proofs::SinkLemmas::sinks, cc_base::proofs::CountLemmas::counts, answer_lines::proofs::LineLemmas::puts_none))]
 
 ghost use Rattle.std.specs.Prelude.{◌≡◌, ◌++◌, ◌<◌, ◌^◌, All, IfOk, OnOk, Some, if◌then◌else◌, length, map, slice_get, zip};
-ghost use Rattle.std.specs.List.{flat_map, list_all};
+ghost use Rattle.std.specs.List.{AllByRecursion, flat_map, list_all};
 ghost use Rattle.asm_image.specs.Faults.{FirstBroken};
 ghost use Rattle.asm_image.specs.Rows.{methods_of};
 ghost use Rattle.asm_image.specs.declared.method_row.MethodRow.{MethodRow};
-ghost use Rattle.check_driver.specs.Asked.{Asks, check_asked, outcome_key, units_asked, unseen};
+ghost use Rattle.check_driver.specs.Asked.{Asks, check_keys, distinct, judged_keys, outcome_key, units_asked, unseen};
 ghost use Rattle.check_driver.specs.CheckText.{all_methods_proved, all_shown, assembly_line, check_text, findings, found_counts, is_proved, method_line, outcome_finding, outcome_shown, verdict_text};
-ghost use Rattle.check_driver.specs.Checked.{AreRunnable, IsReportable};
+ghost use Rattle.check_driver.specs.Checked.{AreBegun, AreRunnable, IsReportable};
 ghost use Rattle.answer_lines.specs.Counting.{AreBelow};
 ghost use Rattle.check_driver.specs.Expected.{check_answer};
 ghost use Rattle.check_driver.specs.Findings.{IsWithin, finding_in, found_lines, shown_in};
 ghost use Rattle.assembly_answers.specs.ListText.{AreNamedPlainly};
+ghost use Rattle.check_driver.specs.Met.{bytes_read};
 ghost use Rattle.check_driver.specs.NothingOr.{NothingOr};
+ghost use Rattle.command_words.specs.Words.{words_at, words_bytes};
 ghost use Rattle.answer_lines.specs.LineCounts.{AreLines, line_count};
 ghost use Rattle.answer_lines.specs.Outcome.{Gives};
 ghost use Rattle.answer_lines.specs.Writing.{Writes, change_of, joined};
@@ -28,6 +30,7 @@ use answer_lines::{Counts, Interrupt, answer_refused, append_lines, put_lines, s
 use asm_image::{AsmRefusal, Assembly, MethodRow};
 use assembly_answers::assembly_fault_text;
 use cc_base::{Sink, append_escaped, put_hex};
+use command_words::word_at;
 use std::alloc::{AllocError, Global};
 use unit_builder::Units;
 use widening_engine::Finder;
@@ -109,8 +112,32 @@ fn find<D: Finder>(
 }
 
 /// Returns what is found of each method of an assembly, with the text of its invariant where that is shown. Of equal
-/// units one is judged.
+/// units one is judged, also among those that are in the cache.
 pub fn find_all<D: Finder>(
+    alloc: Global,
+    assembly: &Assembly<'_>,
+    cache: &mut VerdictCache,
+    finder: &mut D,
+) -> Result<Vec<Finding>, AllocError>
+    ensures value { IfOk result (λ found. map finding_in found.items ≡ findings (entries_of assembly.now)) }
+    ensures shown { IfOk result (λ found. map shown_in found.items ≡ all_shown cache.old.show (entries_of assembly.now)) }
+    ensures within { IfOk result (λ found. All IsWithin found.items) }
+    ensures few { IfOk result (λ found. length found.items < 2 ^ 32) }
+    ensures runnable { IfOk result (λ _. AreRunnable assembly.now) }
+    ensures show { cache.new.show ≡ cache.old.show }
+    ensures keys { OnOk result (cache.new.keys ≡ cache.old.keys ++ unseen cache.old.keys (judged_keys (entries_of assembly.now))) }
+    ensures asked { Asks (unseen cache.old.keys (judged_keys (entries_of assembly.now))) result (D.asked finder.old) (D.asked finder.new) }
+{
+    let mut units = Units::of(alloc, assembly)?;
+    let mut found = Vec::new(alloc);
+    for index in 0..assembly.methods().len() {
+        found.push(find(alloc, &mut units, index, cache, finder)?)?;
+    }
+    Ok(found)
+}
+
+/// The same of an assembly that is looked at alone.
+pub fn find_alone<D: Finder>(
     alloc: Global,
     assembly: &Assembly<'_>,
     show: bool,
@@ -123,13 +150,8 @@ pub fn find_all<D: Finder>(
     ensures runnable { IfOk result (λ _. AreRunnable assembly.now) }
     ensures asked { Asks (units_asked assembly.now) result (D.asked finder.old) (D.asked finder.new) }
 {
-    let mut units = Units::of(alloc, assembly)?;
     let mut cache = VerdictCache::none(alloc, show);
-    let mut found = Vec::new(alloc);
-    for index in 0..assembly.methods().len() {
-        found.push(find(alloc, &mut units, index, &mut cache, finder)?)?;
-    }
-    Ok(found)
+    find_all(alloc, assembly, &mut cache, finder)
 }
 
 /// The counts of a report of which these are the findings.
@@ -206,17 +228,20 @@ struct ReportLines {
 fn report_lines<D: Finder>(
     alloc: Global,
     name: &[u8],
-    show: bool,
     assembly: &Assembly<'_>,
+    cache: &mut VerdictCache,
     finder: &mut D,
 ) -> Result<ReportLines, AllocError>
     ensures status { IfOk result (λ report. report.status ≡ (if all_methods_proved assembly.now then 0 else 1)) }
-    ensures text { IfOk result (λ report. joined report.lines.items ≡ check_text name.now show assembly.now) }
+    ensures text { IfOk result (λ report. joined report.lines.items ≡ check_text name.now cache.old.show assembly.now) }
     ensures lines { IfOk result (λ report. AreLines report.lines.items) }
     ensures reportable { IfOk result (λ _. IsReportable assembly.now) }
-    ensures asked { Asks (units_asked assembly.now) result (D.asked finder.old) (D.asked finder.new) }
+    ensures show { cache.new.show ≡ cache.old.show }
+    ensures keys { OnOk result (cache.new.keys ≡ cache.old.keys ++ unseen cache.old.keys (judged_keys (entries_of assembly.now))) }
+    ensures asked { Asks (unseen cache.old.keys (judged_keys (entries_of assembly.now))) result (D.asked finder.old) (D.asked finder.new) }
 {
-    let found = find_all(alloc, assembly, show, finder)?;
+    let show = cache.shows();
+    let found = find_all(alloc, assembly, cache, finder)?;
     let lines = check_lines(alloc, name, show, assembly, &found)?;
     Ok(ReportLines {
         lines,
@@ -249,52 +274,95 @@ pub fn report<D: Finder>(
     ensures value { IfOk result (λ text. text.items ≡ check_text name.now show assembly.now) }
     ensures asked { Asks (units_asked assembly.now) result (D.asked finder.old) (D.asked finder.new) }
 {
-    let report = report_lines(alloc, name.as_bytes(), show, assembly, finder)?;
-    text_of(alloc, &report.lines)
+    let found = find_alone(alloc, assembly, show, finder)?;
+    let lines = check_lines(alloc, name.as_bytes(), show, assembly, &found)?;
+    text_of(alloc, &lines)
 }
 
-/// Answers for an assembly.
+/// Answers for one of the assemblies of a check.
 fn answer_assembly<O: Sink, D: Finder>(
     alloc: Global,
     name: &[u8],
-    show: bool,
     assembly: &Assembly<'_>,
+    cache: &mut VerdictCache,
     out: &mut O,
     finder: &mut D,
 ) -> Result<u8, Interrupt>
     ensures status { IfOk result (λ status. status ≡ (if all_methods_proved assembly.now then 0 else 1)) }
-    ensures written { Writes result (change_of O.written O.puts O.faults out.old out.new) (check_text name.now show assembly.now) }
+    ensures written { Writes result (change_of O.written O.puts O.faults out.old out.new) (check_text name.now cache.old.show assembly.now) }
+    ensures known { IfOk result (λ _. IsReportable assembly.now) }
     ensures reportable { NothingOr (O.written out.old) (O.written out.new) (IsReportable assembly.now) }
-    ensures asked { Asks (units_asked assembly.now) result (D.asked finder.old) (D.asked finder.new) }
+    ensures show { cache.new.show ≡ cache.old.show }
+    ensures keys { OnOk result (cache.new.keys ≡ cache.old.keys ++ unseen cache.old.keys (judged_keys (entries_of assembly.now))) }
+    ensures asked { Asks (unseen cache.old.keys (judged_keys (entries_of assembly.now))) result (D.asked finder.old) (D.asked finder.new) }
 {
-    let report = report_lines(alloc, name, show, assembly, finder)?;
+    let report = report_lines(alloc, name, assembly, cache, finder)?;
     put_lines(alloc, out, &report.lines)?;
     Ok(report.status)
 }
 
-/// Answers `check FILE` for the bytes of the file. The report shows the invariants where these are asked for.
-///
-/// Cost: the code of each method is read once, however many methods call it, and of equal units one is analysed. What
-/// is found of each is kept until all is.
-pub fn answer_check<O: Sink, E: Sink, D: Finder>(
+/// Answers for the assemblies that the words at these indexes name, of which these bytes were read, one after another.
+/// The first that is refused ends the answer. Units that are in the cache are not judged again.
+fn answer_each<O: Sink, E: Sink, D: Finder>(
     alloc: Global,
-    name: &[u8],
-    show: bool,
-    bytes: &[u8],
+    words: &[String],
+    indexes: &[u32],
+    read: &[Vec<u8>],
+    cache: &mut VerdictCache,
     out: &mut O,
     err: &mut E,
     finder: &mut D,
 ) -> Result<u8, Interrupt>
-    ensures answer { Gives (check_answer name.now show bytes.now (FirstBroken bytes.now)) result
+    requires inside { AllByRecursion (λ index. index < length words.now) indexes.now }
+    requires each { length read.now ≡ length indexes.now }
+    ensures answer { Gives (check_answer cache.old.show (words_at (words_bytes words.now) indexes.now) (bytes_read read.now)) result
         (change_of O.written O.puts O.faults out.old out.new) (change_of E.written E.puts E.faults err.old err.new) }
-    ensures reportable { NothingOr (O.written out.old) (O.written out.new) (IsReportable bytes.now) }
-    ensures asked { Asks (check_asked bytes.now (FirstBroken bytes.now)) result (D.asked finder.old) (D.asked finder.new) }
+    ensures begun { AreBegun cache.old.show (zip (words_at (words_bytes words.now) indexes.now) (bytes_read read.now)) (O.written out.old) (O.written out.new) }
+    ensures asked { Asks (unseen cache.old.keys (check_keys (bytes_read read.now))) result (D.asked finder.old) (D.asked finder.new) }
 {
+    let [index, indexes @ ..] = indexes else {
+        return Ok(0);
+    };
+    let [bytes, read @ ..] = read else {
+        return Ok(0);
+    };
+    let name = word_at(words, *index).as_bytes();
     match Assembly::read(alloc, bytes) {
         Err(AsmRefusal::NoMemory) => Err(Interrupt::NoMemory),
         Err(AsmRefusal::Bad(fault)) => {
             answer_refused(alloc, name, assembly_fault_text(fault.cause), fault.at, err)
         }
-        Ok(assembly) => answer_assembly(alloc, name, show, &assembly, out, finder),
+        Ok(assembly) => {
+            let status = answer_assembly(alloc, name, &assembly, cache, out, finder)?;
+            let others = answer_each(alloc, words, indexes, read, cache, out, err, finder)?;
+            Ok(status.max(others))
+        }
     }
+}
+
+/// Answers a check of the assemblies that the words at these indexes name, for the bytes of their files. The reports
+/// show the invariants where these are asked for.
+///
+/// Cost: the code of each method is read once, however many methods call it, and of equal units one is analysed, also
+/// among those of several files. What is found of a file is kept until its report is made, and the assemblies that were
+/// read until the answer is given.
+pub fn answer_check<O: Sink, E: Sink, D: Finder>(
+    alloc: Global,
+    words: &[String],
+    indexes: &[u32],
+    show: bool,
+    read: &[Vec<u8>],
+    out: &mut O,
+    err: &mut E,
+    finder: &mut D,
+) -> Result<u8, Interrupt>
+    requires inside { All (λ index. index < length words.now) indexes.now }
+    requires each { length read.now ≡ length indexes.now }
+    ensures answer { Gives (check_answer show (words_at (words_bytes words.now) indexes.now) (bytes_read read.now)) result
+        (change_of O.written O.puts O.faults out.old out.new) (change_of E.written E.puts E.faults err.old err.new) }
+    ensures begun { AreBegun show (zip (words_at (words_bytes words.now) indexes.now) (bytes_read read.now)) (O.written out.old) (O.written out.new) }
+    ensures asked { Asks (distinct (check_keys (bytes_read read.now))) result (D.asked finder.old) (D.asked finder.new) }
+{
+    let mut cache = VerdictCache::none(alloc, show);
+    answer_each(alloc, words, indexes, read, &mut cache, out, err, finder)
 }

@@ -9,7 +9,7 @@ ghost use Rattle.answer_lines.specs.LineCounts.{line_count};
 ghost use Rattle.answer_lines.specs.Writing.{Writes, change_of};
 ghost use Rattle.written_assemblies.specs.GeneratedFiles.{generated_file};
 
-use crate::check_answer::{count, find_all, status_of};
+use crate::check_answer::{count, find_alone, status_of};
 use answer_lines::{Interrupt, put_line, summary_line};
 use asm_image::Assembly;
 use cc_base::Sink;
@@ -36,7 +36,7 @@ fn summarise<D: Finder>(
     ensures one { IfOk result (λ summary. line_count summary.line.items ≡ 1) }
     ensures asked { Asks (units_asked assembly.now) result (D.asked finder.old) (D.asked finder.new) }
 {
-    let found = find_all(alloc, assembly, false, finder)?;
+    let found = find_alone(alloc, assembly, false, finder)?;
     Ok(Summary {
         line: summary_line(alloc, count(&found))?,
         status: status_of(&found),

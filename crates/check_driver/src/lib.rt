@@ -14,5 +14,5 @@ mod verdict_cache;
 
 pub use answer_lines::NO_MEMORY;
 pub use check_answer::report;
-pub use command_words::{Command, RunWords, parse_words};
+pub use command_words::{CheckWords, Command, RunWords, parse_words};
 pub use program::run_words;

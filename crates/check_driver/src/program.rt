@@ -2,7 +2,7 @@
 
 #![tactic(auto, using(cc_base::proofs::SinkLemmas::sinks, cc_base::proofs::CountLemmas::counts, answer_lines::proofs::LineLemmas::puts_none))]
 
-ghost use Rattle.std.specs.Prelude.{◌≡◌, ◌⊎◌, ◌<◌, ◌≤◌, All, Contains, List, ℕ, length, Option, Some, IfOk, IfSome, None};
+ghost use Rattle.std.specs.Prelude.{◌≡◌, ◌⊎◌, ◌<◌, ◌≤◌, All, Contains, List, ℕ, is_some, length, Option, Some, IfOk, IfSome, None, zip};
 ghost use Rattle.asm_image.specs.Faults.{FirstBroken};
 ghost use Rattle.asm_image.specs.Rows.{methods_of};
 ghost use Rattle.asm_image.specs.declared.method_row.MethodRow.{MethodRow};
@@ -12,7 +12,7 @@ ghost use Rattle.cc_base.specs.Sink.{AppendsFront};
 ghost use Rattle.cc_base.specs.declared.token.Token.{Token};
 ghost use Rattle.check_driver.specs.Asked.{AnswerAsks, Asks, LeavesAsked, asked_by, bytes_asked, files_asked};
 ghost use Rattle.cil_model.specs.Runs.{Safe};
-ghost use Rattle.check_driver.specs.Checked.{IfCheck, IsHeldReportable, IsReportable, IsSafeMethod};
+ghost use Rattle.check_driver.specs.Checked.{AreBegun, AreHeldBegun, IfCheck, IsSafeMethod};
 ghost use Rattle.assembly_answers.specs.Answers.{run_file_answer};
 ghost use Rattle.check_driver.specs.Expected.{bytes_answer, expected, file_at, files_answer};
 ghost use Rattle.check_driver.specs.Met.{AreUnder, bytes_read};
@@ -22,7 +22,7 @@ ghost use Rattle.check_driver.specs.NothingOr.{NothingOr};
 ghost use Rattle.check_driver.specs.ProvedUnit.{AreSpelled, AsksForUnit, IfUnit, IsHeldSpelled, PrintsProvedUnit, SpellSafeUnit};
 ghost use Rattle.check_driver.specs.Refuted.{AsksToRefute, PrintsRefuted};
 ghost use Rattle.check_driver.specs.Sections.{HasProvedLine, section};
-ghost use Rattle.command_words.specs.Words.{HasArguments, IfGen, IfRun, args_told, command_of, file_indexes, file_names, used_indexes, word_at, words_at, words_bytes};
+ghost use Rattle.command_words.specs.Words.{HasArguments, IfGen, IfRun, args_told, check_files, command_of, file_indexes, file_names, used_indexes, word_at, words_at, words_bytes};
 ghost use Rattle.answer_lines.specs.Writing.{change_of};
 ghost use Rattle.unit_builder.specs.WorldOf.{world_of};
 
@@ -76,23 +76,27 @@ fn answer_run_words<O: Sink, E: Sink>(
     answer_run(alloc, name, method, given, bytes, out, err)
 }
 
-/// Answers a command for what was read of its files, of each at most `READ_LIMIT` bytes.
+/// Answers a command for what was read of its files, of each at most `READ_LIMIT` bytes. The words at these indexes name
+/// them.
 fn answer_bytes<O: Sink, E: Sink, D: Finder>(
     alloc: Global,
     command: Command,
     words: &[String],
+    indexes: &[u32],
     read: &[Vec<u8>],
     out: &mut O,
     err: &mut E,
     finder: &mut D,
 ) -> Result<u8, Interrupt>
     requires words { All (λ index. index < length words.now) (used_indexes command) }
+    requires files { indexes.now ≡ file_indexes command }
     requires read { length read.now ≡ length (file_indexes command) }
     requires arguments { IfRun command (λ run. HasArguments run (words_bytes words.now)) }
     requires few { IfGen command (λ seed count. count ≤ 10000) }
     ensures answer { Gives (bytes_answer command (words_bytes words.now) (bytes_read read.now)) result
         (change_of O.written O.puts O.faults out.old out.new) (change_of E.written E.puts E.faults err.old err.new) }
-    ensures reportable { NothingOr (O.written out.old) (O.written out.new) (IfCheck command (λ _. IsReportable (file_at (bytes_read read.now) 0))) }
+    ensures begun { IfCheck command (λ check.
+        AreBegun (is_some check.show) (zip (words_at (words_bytes words.now) (check_files check)) (bytes_read read.now)) (O.written out.old) (O.written out.new)) }
     ensures asked { Asks (bytes_asked command (bytes_read read.now)) result (D.asked finder.old) (D.asked finder.new) }
     ensures spelled { NothingOr (O.written out.old) (O.written out.new) (IfUnit command (λ _. AreSpelled (file_at (bytes_read read.now) 0))) }
 {
@@ -114,16 +118,8 @@ fn answer_bytes<O: Sink, E: Sink, D: Finder>(
             let (name, method) = names_at(words, file, method);
             answer_il(alloc, name, method, &read[0], out, err)
         }
-        Command::Check { file, show } => {
-            answer_check(
-                alloc,
-                word_at(words, file).as_bytes(),
-                show,
-                &read[0],
-                out,
-                err,
-                finder,
-            )
+        Command::Check(check) => {
+            answer_check(alloc, words, indexes, check.shows(), read, out, err, finder)
         }
         Command::Run(run) => answer_run_words(alloc, run, words, &read[0], out, err),
         Command::Refute { file, method, runs } => {
@@ -154,14 +150,15 @@ fn answer_command<F: Files, O: Sink, E: Sink, D: Finder>(
         (change_of O.written O.puts O.faults out.old out.new) (change_of E.written E.puts E.faults err.old err.new)
         × AnswerAsks (files_asked command given met) result (D.asked finder.old) (D.asked finder.new) }
     ensures missing { IfOk result (λ status. status ≡ 3 → Rose (F.missed files.old) (F.missed files.new)) }
-    ensures reportable { NothingOr (O.written out.old) (O.written out.new)
-        (IfCheck command (λ file. IsHeldReportable (F.held files.old) (word_at (words_bytes words.now) file))) }
+    ensures begun { IfCheck command (λ check.
+        AreHeldBegun (F.held files.old) (is_some check.show) (words_at (words_bytes words.now) (check_files check)) (O.written out.old) (O.written out.new)) }
     ensures spelled { NothingOr (O.written out.old) (O.written out.new)
         (IfUnit command (λ file. IsHeldSpelled (F.held files.old) (word_at (words_bytes words.now) file))) }
     ensures files { F.held files.new ≡ F.held files.old }
 {
-    match read_files(alloc, words, command.files(), files) {
-        Ok(read) => answer_bytes(alloc, command, words, &read, out, err, finder),
+    let indexes = command.files(alloc)?;
+    match read_files(alloc, words, &indexes, files) {
+        Ok(read) => answer_bytes(alloc, command, words, &indexes, &read, out, err, finder),
         Err(Unread::Missing(file)) => answer_missing(alloc, word_at(words, file).as_bytes(), err),
         Err(Unread::Failed(file)) => answer_unread(alloc, word_at(words, file).as_bytes(), err),
         Err(Unread::NoMemory) => Err(Interrupt::NoMemory),
@@ -184,9 +181,9 @@ fn answer_words<F: Files, O: Sink, E: Sink, D: Finder>(
         × AnswerAsks (asked_by given met) result (D.asked finder.old) (D.asked finder.new) }
     ensures missing { IfOk result (λ status. status ≡ 3 → Rose (F.missed files.old) (F.missed files.new)) }
     ensures usage { command_of (words_bytes words.now) ≡ None → IfOk result (λ status. status ≡ 2) }
-    ensures reportable { let given = words_bytes words.now in
-        NothingOr (O.written out.old) (O.written out.new)
-        (IfSome (command_of given) (λ command. IfCheck command (λ file. IsHeldReportable (F.held files.old) (word_at given file)))) }
+    ensures begun { let given = words_bytes words.now in
+        IfSome (command_of given) (λ command. IfCheck command (λ check.
+        AreHeldBegun (F.held files.old) (is_some check.show) (words_at given (check_files check)) (O.written out.old) (O.written out.new))) }
     ensures spelled { let given = words_bytes words.now in
         NothingOr (O.written out.old) (O.written out.new)
         (IfSome (command_of given) (λ command. IfUnit command (λ file. IsHeldSpelled (F.held files.old) (word_at given file)))) }

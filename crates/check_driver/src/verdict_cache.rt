@@ -50,6 +50,13 @@ impl VerdictCache {
         }
     }
 
+    /// Returns whether invariants are shown.
+    pub fn shows(&self) -> bool
+        ensures { result ≡ self.now.show }
+    {
+        self.show
+    }
+
     /// The verdicts on the unit of these bytes, if it was judged.
     fn get(&self, key: &[u8]) -> Option<&UnitVerdicts>
         ensures there { is_some result ≡ is_among self.now.keys key.now }

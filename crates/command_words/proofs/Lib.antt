@@ -1,1 +1,2 @@
 pub mod RunWordLemmas
+pub mod CheckWordLemmas

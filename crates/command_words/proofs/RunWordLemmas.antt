@@ -40,7 +40,7 @@ no_run : (command : Command) (words : List (List ℕ)) → IfRun command (λ run
 no_run (commands.Unit file) words none = tt
 no_run (commands.List file) words none = tt
 no_run (commands.Il file method) words none = tt
-no_run (commands.Check file show) words none = tt
+no_run (commands.Check check) words none = tt
 no_run (commands.Run run) words none = absurd none
 no_run (commands.Refute file method runs) words none = tt
 no_run (commands.Gen seed count) words none = tt

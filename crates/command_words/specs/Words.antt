@@ -1,6 +1,6 @@
 -- The grammar of the program's words.
-use Rattle.std.specs.Prelude.{◌≡◌, ℕ, ◌-◌, ◌^◌, ◌≤◌, true, Bool, false, not, nat_le, nat_lt, List, [], ◌∷◌, length, map, take, drop, Option, Some, None, option_map, ◌==◌, ◌&&◌, if◌then◌else◌, codes, slice_index_or}
-use Rattle.std.specs.List.{list_all}
+use Rattle.std.specs.Prelude.{◌≡◌, ℕ, ◌+◌, ◌-◌, ◌^◌, ◌≤◌, true, Bool, false, not, nat_le, nat_lt, List, [], ◌∷◌, length, map, take, drop, Option, Some, None, option_map, ◌==◌, ◌&&◌, ◌||◌, if◌then◌else◌, codes, slice_index_or, filter, position}
+use Rattle.std.specs.List.{count_by, list_all, range_with_len}
 use Rattle.std.specs.Str.{bytes_eq}
 use Rattle.std.specs.String.{string_bytes}
 use Rattle.std.specs.declared.alloc.Global.{Global}
@@ -8,6 +8,7 @@ use Rattle.std.specs.declared.string.String.{String}
 use Rattle.command_words.specs.declared.command.Command.{Command}
 use Rattle.command_words.specs.declared.command.Command.TheVariants as commands
 use Rattle.command_words.specs.declared.command.RunWords.{RunWords}
+use Rattle.command_words.specs.declared.check_words.CheckWords.{CheckWords}
 use Rattle.run_arguments.specs.Arguments.{is_argument}
 use Rattle.run_arguments.specs.Numbers.{number_of_word}
 
@@ -29,27 +30,15 @@ abbrev pub file_command : List ℕ → ℕ → Option Command
 file_command word index =
     if bytes_eq word (codes "unit") then Some (commands.Unit index)
     else if bytes_eq word (codes "list") then Some (commands.List index)
-    else if bytes_eq word (codes "check") then Some (commands.Check index false)
     else None
 
--- The command of two words: `unit FILE`, `list FILE` or `check FILE`.
+-- The command of two words: `unit FILE` or `list FILE`.
 abbrev pub command_of_two : List ℕ → List ℕ → Option Command
 command_of_two word file = if is_name_word file then file_command word 1 else None
 
 -- The command that shows the instructions of a method.
 abbrev pub il_command : List ℕ → List ℕ → Option Command
 il_command file method = if is_name_word file && is_name_word method then Some (commands.Il 1 2) else None
-
--- The command that reports on the file that a word names, and shows what was found of it.
-abbrev pub shown_command : List ℕ → ℕ → Option Command
-shown_command file index = if is_name_word file then Some (commands.Check index true) else None
-
--- The command whose words are a file and `--show`, in any order.
-abbrev pub check_command : List ℕ → List ℕ → Option Command
-check_command first second =
-    if bytes_eq first (codes "--show") then shown_command second 2
-    else if bytes_eq second (codes "--show") then shown_command first 1
-    else None
 
 -- The greatest seed, and the most methods that are generated.
 abbrev pub MAX_SEED : ℕ
@@ -66,13 +55,53 @@ gen_told _ _ = None
 abbrev pub gen_command : List ℕ → List ℕ → Option Command
 gen_command seed count = gen_told (number_of_word MAX_SEED seed) (number_of_word MAX_METHODS count)
 
--- The command of three words: `il FILE METHOD`, `check FILE --show`, `check --show FILE` or `gen SEED COUNT`.
+-- The command of three words: `il FILE METHOD` or `gen SEED COUNT`.
 unfoldable pub command_of_three : List ℕ → List ℕ → List ℕ → Option Command
 command_of_three word first second =
     if bytes_eq word (codes "il") then il_command first second
-    else if bytes_eq word (codes "check") then check_command first second
     else if bytes_eq word (codes "gen") then gen_command first second
     else None
+
+-- ---- checks
+
+-- The word that asks for invariants.
+abbrev pub is_show : List ℕ → Bool
+is_show word = bytes_eq word (codes "--show")
+
+-- A word that may stand after `check`.
+abbrev pub is_check_word : List ℕ → Bool
+is_check_word word = is_show word || is_name_word word
+
+-- The most files that a check may have.
+abbrev pub MAX_FILES : ℕ
+MAX_FILES = 64
+
+-- How many of these words name files.
+abbrev pub file_count : List (List ℕ) → ℕ
+file_count words = length words - count_by is_show words
+
+-- The words after `check`, in any order: at most one `--show`, and files, of which there are 1 to 64.
+abbrev pub are_check_words : List (List ℕ) → Bool
+are_check_words words =
+    list_all is_check_word words && nat_le (count_by is_show words) 1 && nat_le 1 (file_count words) && nat_le (file_count words) MAX_FILES
+
+-- How many words a check has, and which of them is `--show`, for the words after `check`.
+unfoldable pub check_words : List (List ℕ) → Option CheckWords
+check_words words =
+    if are_check_words words then Some (record { count = length words + 1; show = option_map (λ index. index + 1) (position is_show words) }) else None
+
+-- An index is another one than this, if there is one.
+abbrev pub is_other : Option ℕ → ℕ → Bool
+is_other None index = true
+is_other (Some one) index = not (index == one)
+
+-- The word at an index names a file of a check, unless it is `check` or `--show`.
+abbrev pub names_file : CheckWords → ℕ → Bool
+names_file check index = is_other check.show index
+
+-- The indexes of the words that name the files of a check, in order.
+abbrev pub check_files : CheckWords → List ℕ
+check_files check = filter (names_file check) (range_with_len 1 (check.count - 1))
 
 -- ---- runs
 
@@ -156,22 +185,28 @@ refute_command file method options =
 
 -- ---- commands
 
--- The command that the words are, if they are one.
-abbrev pub command_of : List (List ℕ) → Option Command
-command_of (word ∷ file ∷ []) = command_of_two word file
-command_of (word ∷ first ∷ second ∷ args) =
+-- The command of words of which the first is not `check`.
+abbrev pub other_command : List (List ℕ) → Option Command
+other_command (word ∷ file ∷ []) = command_of_two word file
+other_command (word ∷ first ∷ second ∷ args) =
     if bytes_eq word (codes "run") then run_command (word ∷ first ∷ second ∷ args)
     else if bytes_eq word (codes "refute") then refute_command first second args
     else if length args == 0 then command_of_three word first second
     else None
-command_of _ = None
+other_command _ = None
+
+-- The command that the words are, if they are one.
+abbrev pub command_of : List (List ℕ) → Option Command
+command_of [] = None
+command_of (word ∷ words) =
+    if bytes_eq word (codes "check") then option_map commands.Check (check_words words) else other_command (word ∷ words)
 
 -- The indexes of the words that name the command's files, in the order in which the files are read.
 abbrev pub file_indexes : Command → List ℕ
 file_indexes (commands.Unit file) = file ∷ []
 file_indexes (commands.List file) = file ∷ []
 file_indexes (commands.Il file method) = file ∷ []
-file_indexes (commands.Check file show) = file ∷ []
+file_indexes (commands.Check check) = check_files check
 file_indexes (commands.Run run) = run.file ∷ []
 file_indexes (commands.Refute file method runs) = file ∷ []
 file_indexes (commands.Gen seed count) = []
@@ -181,7 +216,7 @@ abbrev pub checked_indexes : Command → List ℕ
 checked_indexes (commands.Unit file) = []
 checked_indexes (commands.List file) = []
 checked_indexes (commands.Il file method) = []
-checked_indexes (commands.Check file show) = file ∷ []
+checked_indexes (commands.Check check) = check_files check
 checked_indexes (commands.Run run) = []
 checked_indexes (commands.Refute file method runs) = []
 checked_indexes (commands.Gen seed count) = []
@@ -191,7 +226,7 @@ abbrev pub used_indexes : Command → List ℕ
 used_indexes (commands.Unit file) = file ∷ []
 used_indexes (commands.List file) = file ∷ []
 used_indexes (commands.Il file method) = file ∷ method ∷ []
-used_indexes (commands.Check file show) = file ∷ []
+used_indexes (commands.Check check) = check_files check
 used_indexes (commands.Run run) = run.file ∷ run.method ∷ []
 used_indexes (commands.Refute file method runs) = file ∷ method ∷ []
 used_indexes (commands.Gen seed count) = []

@@ -1,13 +1,16 @@
 //! The words that the program is given.
 
-ghost use Rattle.std.specs.Prelude.{◌≡◌, ◌+◌, ◌<◌, ◌≤◌, ◌^◌, All, IfSome, IsTrue, length, string_bytes};
+ghost use Rattle.std.specs.Prelude.{◌≡◌, [], ◌∷◌, ◌+◌, ◌<◌, ◌≤◌, ◌^◌, All, IfOk, IfSome, IsTrue, length, option_map, string_bytes};
 ghost use Rattle.std.specs.List.{list_all};
-ghost use Rattle.command_words.specs.Words.{HasArguments, IfGen, IfRun, args_end, at_least_one, check_command, command_of, command_of_three, command_of_two, file_indexes, gen_command, il_command, is_name_word, names_run, refute_command, run_args, run_command, run_steps, runs_told, shown_command, tells_steps, used_indexes, word_at, words_bytes};
+ghost use Rattle.command_words.specs.Words.{HasArguments, IfGen, IfRun, args_end, at_least_one, check_words, command_of, command_of_three, command_of_two, file_indexes, gen_command, il_command, is_name_word, names_run, other_command, refute_command, run_args, run_command, run_steps, runs_told, tells_steps, used_indexes, word_at, words_bytes};
+ghost use Rattle.command_words.specs.declared.command.Command.TheVariants as commands;
 ghost use Rattle.run_arguments.specs.Arguments as arguments;
 ghost use Rattle.run_arguments.specs.Numbers.{number_of_word};
 
+use crate::check_words::{CheckWords, read_check};
+use crate::names::is_name_word;
 use run_arguments::{is_argument, read_number};
-use std::slice;
+use std::alloc::{AllocError, Global};
 
 /// What the program is asked for. Files and methods are told by the indexes of the words that name them,
 /// counted from 0.
@@ -19,13 +22,8 @@ pub enum Command {
     List(u32),
     /// The instructions of a method: the file of its assembly, then the method.
     Il(u32, u32),
-    /// The report of the assembly in a file, and whether it shows the invariant of each method.
-    Check {
-        /// The index of the word that names the file.
-        file: u32,
-        /// True where the report shows the invariants.
-        show: bool,
-    },
+    /// The reports of the assemblies in files, with the invariants of their methods or without.
+    Check(CheckWords),
     /// A run of a method.
     Run(RunWords),
     /// A search for arguments with which a run of a method ends in a fault.
@@ -54,30 +52,29 @@ pub struct RunWords {
     pub steps: u32,
 }
 
+/// One index alone.
+fn only(alloc: Global, index: u32) -> Result<Vec<u32>, AllocError>
+    ensures { IfOk result (λ indexes. indexes.items ≡ index ∷ []) }
+{
+    let mut indexes = Vec::new(alloc);
+    indexes.push(index)?;
+    Ok(indexes)
+}
+
 impl Command {
     /// The indexes of the words that name its files, in the order in which the files are read.
-    pub fn files(&self) -> &[u32]
-        ensures { result.now ≡ file_indexes self.now }
+    pub fn files(&self, alloc: Global) -> Result<Vec<u32>, AllocError>
+        ensures { IfOk result (λ files. files.items ≡ file_indexes self.now) }
     {
         match self {
             Command::Unit(file)
             | Command::List(file)
             | Command::Il(file, _)
-            | Command::Check { file, .. }
             | Command::Run(RunWords { file, .. })
-            | Command::Refute { file, .. } => slice::from_ref(file),
-            Command::Gen(_, _) => &[],
+            | Command::Refute { file, .. } => only(alloc, *file),
+            Command::Check(words) => words.files(alloc),
+            Command::Gen(_, _) => Ok(Vec::new(alloc)),
         }
-    }
-}
-
-/// Returns whether a word may name a file or a method: it is not empty and does not begin with `-`.
-fn is_name_word(word: &str) -> bool
-    ensures { result ≡ is_name_word word.now }
-{
-    match word.as_bytes() {
-        [] => false,
-        [first, ..] => *first != b'-',
     }
 }
 
@@ -92,10 +89,6 @@ fn command_of_two(word: &str, file: &str) -> Option<Command>
     match word {
         "unit" => Some(Command::Unit(1)),
         "list" => Some(Command::List(1)),
-        "check" => Some(Command::Check {
-            file: 1,
-            show: false,
-        }),
         _ => None,
     }
 }
@@ -110,43 +103,6 @@ fn il_command(file: &str, method: &str) -> Option<Command>
         return Some(Command::Il(1, 2));
     }
     None
-}
-
-/// The command that reports on the file that the word at an index names, and shows invariants.
-fn shown_command(file: &str, index: u32) -> Option<Command>
-    requires { index < 3 }
-    ensures inside { IfSome result (λ command. All (λ index. index < 3) (used_indexes command)) }
-    ensures no_run { IfSome result (λ command. IfRun command (λ run. ⊥)) }
-    ensures few { IfSome result (λ command. IfGen command (λ seed count. count ≤ 10000)) }
-    ensures command { result ≡ shown_command file.now index }
-{
-    if is_name_word(file) {
-        return Some(Command::Check {
-            file: index,
-            show: true,
-        });
-    }
-    None
-}
-
-/// The word that asks for invariants.
-const SHOW: &str = "--show";
-
-/// The command that reports on a file and shows invariants, where one of two words asks for that and the other may name
-/// a file.
-fn check_command(first: &str, second: &str) -> Option<Command>
-    ensures inside { IfSome result (λ command. All (λ index. index < 3) (used_indexes command)) }
-    ensures no_run { IfSome result (λ command. IfRun command (λ run. ⊥)) }
-    ensures few { IfSome result (λ command. IfGen command (λ seed count. count ≤ 10000)) }
-    ensures command { result ≡ check_command first.now second.now }
-{
-    if first == SHOW {
-        shown_command(second, 2)
-    } else if second == SHOW {
-        shown_command(first, 1)
-    } else {
-        None
-    }
 }
 
 /// The greatest seed that the words may give.
@@ -180,7 +136,6 @@ fn command_of_three(word: &str, first: &str, second: &str) -> Option<Command>
 {
     match word {
         "il" => il_command(first, second),
-        "check" => check_command(first, second),
         "gen" => gen_command(first, second),
         _ => None,
     }
@@ -329,12 +284,23 @@ fn refute_command(file: &str, method: &str, options: &[String]) -> Option<Comman
     })
 }
 
-/// The command that the words are, if they are one.
-pub fn parse_words(words: &[String]) -> Option<Command>
+/// The command that reports on the assemblies in files, where these words stand after `check`.
+fn check_command(words: &[String]) -> Option<Command>
+    ensures inside { IfSome result (λ command. All (λ index. index < length words.now + 1) (used_indexes command)) }
+    ensures no_run { IfSome result (λ command. IfRun command (λ run. ⊥)) }
+    ensures few { IfSome result (λ command. IfGen command (λ seed count. count ≤ 10000)) }
+    ensures command { result ≡ option_map commands.Check (check_words (words_bytes words.now)) }
+{
+    let check = read_check(words)?;
+    Some(Command::Check(check))
+}
+
+/// The command of words of which the first is not `check`, if they are one.
+fn other_command(words: &[String]) -> Option<Command>
     ensures inside { IfSome result (λ command. All (λ index. index < length words.now) (used_indexes command)) }
     ensures arguments { IfSome result (λ command. IfRun command (λ run. HasArguments run (words_bytes words.now))) }
     ensures few { IfSome result (λ command. IfGen command (λ seed count. count ≤ 10000)) }
-    ensures command { result ≡ command_of (words_bytes words.now) }
+    ensures command { result ≡ other_command (words_bytes words.now) }
 {
     match words {
         [word, file] => command_of_two(word.as_str(), file.as_str()),
@@ -344,6 +310,20 @@ pub fn parse_words(words: &[String]) -> Option<Command>
         }
         [word, first, second] => command_of_three(word.as_str(), first.as_str(), second.as_str()),
         _ => None,
+    }
+}
+
+/// The command that the words are, if they are one.
+pub fn parse_words(words: &[String]) -> Option<Command>
+    ensures inside { IfSome result (λ command. All (λ index. index < length words.now) (used_indexes command)) }
+    ensures arguments { IfSome result (λ command. IfRun command (λ run. HasArguments run (words_bytes words.now))) }
+    ensures few { IfSome result (λ command. IfGen command (λ seed count. count ≤ 10000)) }
+    ensures command { result ≡ command_of (words_bytes words.now) }
+{
+    match words {
+        [] => None,
+        [word, others @ ..] if word.as_str() == "check" => check_command(others),
+        _ => other_command(words),
     }
 }
 

@@ -1,6 +1,9 @@
 //! The words that the program is given: its commands.
 #![tactic(auto)]
 
+mod check_words;
 mod command;
+mod names;
 
+pub use check_words::CheckWords;
 pub use command::{Command, RunWords, parse_words, word_at};

@@ -9,12 +9,12 @@ use widening_engine::Dirty;
 /// The word that asks for invariants.
 const SHOW: &str = "--show";
 
-/// The file whose report the words of a `check` ask for, and whether it shows invariants.
+/// The file whose report the words of a `check` of one file ask for, and whether it shows invariants.
 pub fn asked_report(words: &[String]) -> Option<(&str, bool)> {
     match words {
         [_, file] => Some((file.as_str(), false)),
         [_, show, file] if show.as_str() == SHOW => Some((file.as_str(), true)),
-        [_, file, _] => Some((file.as_str(), true)),
+        [_, file, show] if show.as_str() == SHOW => Some((file.as_str(), true)),
         _ => None,
     }
 }

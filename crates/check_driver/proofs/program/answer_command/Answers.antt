@@ -8,7 +8,7 @@ use Rattle.answer_lines.proofs.Writings.{gives_no_memory, gives_error}
 use Rattle.check_driver.proofs.Answering.{read_answer, read_asked, missing_answer, missing_asked, gives_unread}
 use Rattle.check_driver.proofs.Asking.{answer_asks, answer_asks_none, unasked, unread_asks}
 use Rattle.check_driver.proofs.Statuses.{never_missing}
-use Rattle.check_driver.proofs.Reportable.{held_reportable}
+use Rattle.check_driver.proofs.Reportable.{held_checked, none_begun}
 use Rattle.check_driver.proofs.SpelledUnits.{held_spelled}
 use Rattle.check_driver.proofs.program.answer_command.Goals as goal
 
@@ -62,11 +62,11 @@ returns-in-Err-NoMemory-clause-answer g c =
 pub returns-in-Ok-clause-missing : goal.returns-in-Ok-clause-missing
 returns-in-Ok-clause-missing g c = never_missing c.args.command (words_bytes c.args.words.now) _ c.answer_bytes.result _ c.answer_bytes.ensures.answer.status
 
-pub returns-in-Ok-clause-reportable : goal.returns-in-Ok-clause-reportable
-returns-in-Ok-clause-reportable g c =
-    let met = rw c.files.ensures at c.in-Ok.ensures.read in
-    held_reportable (g.F.Files.held c.args.files.now) c.args.command (words_bytes c.args.words.now) met.0 c.in-Ok.read.items _ met.1 met.2
-    (rw c.deref.ensures.value at c.answer_bytes.ensures.reportable)
+pub returns-in-Ok-clause-begun : goal.returns-in-Ok-clause-begun
+returns-in-Ok-clause-begun g c =
+    let met = rw (c.deref.ensures.value, c.in_ok-indexes.ensures) at c.in-Ok.ensures.read in
+    held_checked (g.F.Files.held c.args.files.now) c.args.command (words_bytes c.args.words.now) met.0 c.in-Ok.read.items _ _ met.1 met.2
+    (rw c.deref-3.ensures.value at c.answer_bytes.ensures.begun)
 
 pub returns-in-Ok-clause-spelled : goal.returns-in-Ok-clause-spelled
 returns-in-Ok-clause-spelled g c =

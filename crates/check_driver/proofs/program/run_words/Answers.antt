@@ -7,7 +7,8 @@ use Rattle.check_driver.proofs.Asking.{leaves_asked}
 use Rattle.answer_lines.proofs.Causes.{unread_cause, unwritten_cause}
 use Rattle.check_driver.proofs.Statuses.{usage_only, plain_expected}
 use Rattle.answer_lines.proofs.Leaving.{front_given, leaves}
-use Rattle.check_driver.proofs.HeadlineSafety.{headline_keeps, headline_safe, section_safe}
+use Rattle.check_driver.proofs.CheckedSafety.{section_safe}
+use Rattle.check_driver.proofs.HeadlineSafety.{headline_keeps, headline_safe}
 use Rattle.check_driver.proofs.ProvedUnits.{proved_unit_is_safe}
 use Rattle.check_driver.proofs.RefutedMethods.{refuted_is_unsafe}
 use Rattle.check_driver.proofs.program.run_words.Goals as goal
@@ -25,35 +26,15 @@ returns-clause-output g c =
 
 pub returns-clause-headline : goal.returns-clause-headline
 returns-clause-headline g c = λ held k bytes text method told assembly appended has all.
-    let words = words_bytes c.args.words.now in
-    let answer = c.answer_words-answered.ensures.answer in
     let written = g.O.Sink.written in
-    headline_safe (g.F.Files.held c.args.files.now) words held k bytes text answer.0 (written c.args.out.now) (written c.answer_words-answered.new.out)
-    (record {
-      told_is = told;
-      assembly = assembly;
-      under = answer.1;
-      appends = front_given (expected words answer.0) (file_names words) _ c.answer_words-answered.result
-          (change_of written g.O.Sink.puts g.O.Sink.faults c.args.out.now c.answer_words-answered.new.out) _ answer.2;
-      known = c.answer_words-answered.ensures.reportable;
-      appended = appended;
-    }) method has all
+    headline_safe (g.F.Files.held c.args.files.now) (words_bytes c.args.words.now) held k bytes text (written c.args.out.now) (written c.answer_words-answered.new.out)
+    (record { told_is = told; assembly = assembly; begun = c.answer_words-answered.ensures.begun; appended = appended }) method has all
 
 pub returns-clause-keeps : goal.returns-clause-keeps
 returns-clause-keeps g c = λ held k bytes text method told assembly appended has all.
-    let words = words_bytes c.args.words.now in
-    let answer = c.answer_words-answered.ensures.answer in
     let written = g.O.Sink.written in
-    headline_keeps (g.F.Files.held c.args.files.now) words held k bytes text answer.0 (written c.args.out.now) (written c.answer_words-answered.new.out)
-    (record {
-      told_is = told;
-      assembly = assembly;
-      under = answer.1;
-      appends = front_given (expected words answer.0) (file_names words) _ c.answer_words-answered.result
-          (change_of written g.O.Sink.puts g.O.Sink.faults c.args.out.now c.answer_words-answered.new.out) _ answer.2;
-      known = c.answer_words-answered.ensures.reportable;
-      appended = appended;
-    }) method has all
+    headline_keeps (g.F.Files.held c.args.files.now) (words_bytes c.args.words.now) held k bytes text (written c.args.out.now) (written c.answer_words-answered.new.out)
+    (record { told_is = told; assembly = assembly; begun = c.answer_words-answered.ensures.begun; appended = appended }) method has all
 
 pub returns-clause-refuted : goal.returns-clause-refuted
 returns-clause-refuted g c = λ held bytes token told asks prints safe.
@@ -96,16 +77,6 @@ returns-clause-usage g c = λ is.
 
 pub returns-clause-checked : goal.returns-clause-checked
 returns-clause-checked g c = λ held k bytes text method told assembly appended has line.
-    let words = words_bytes c.args.words.now in
-    let answer = c.answer_words-answered.ensures.answer in
     let written = g.O.Sink.written in
-    section_safe (g.F.Files.held c.args.files.now) words held k bytes text answer.0 (written c.args.out.now) (written c.answer_words-answered.new.out)
-    (record {
-      told_is = told;
-      assembly = assembly;
-      under = answer.1;
-      appends = front_given (expected words answer.0) (file_names words) _ c.answer_words-answered.result
-          (change_of written g.O.Sink.puts g.O.Sink.faults c.args.out.now c.answer_words-answered.new.out) _ answer.2;
-      known = c.answer_words-answered.ensures.reportable;
-      appended = appended;
-    }) method has line
+    section_safe (g.F.Files.held c.args.files.now) (words_bytes c.args.words.now) held k bytes text (written c.args.out.now) (written c.answer_words-answered.new.out)
+    (record { told_is = told; assembly = assembly; begun = c.answer_words-answered.ensures.begun; appended = appended }) method has line

@@ -1,0 +1,28 @@
+-- What was printed, and the answer of a command that has one file.
+use Rattle.std.proofs.Common.{◌≡◌, ℕ, List, [], ◌∷◌, ◌++◌, Option, Some, sym, ap, ◌∙◌}
+use Rattle.std.proofs.lemmas.List.{append_cancel_left}
+use Rattle.std.proofs.lemmas.Option.{same_Some}
+use Rattle.cc_base.specs.Files.{Held}
+use Rattle.cc_base.specs.Sink.{appended}
+use Rattle.check_driver.specs.Expected.{bytes_answer, command_answer, expected, files_answer, missing_or}
+use Rattle.check_driver.specs.Met.{AreUnder, first_missing}
+use Rattle.command_words.specs.Words.{command_of, file_indexes, word_at, words_at}
+use Rattle.command_words.specs.declared.command.Command.{Command}
+
+-- What was appended is known from what was written before and after.
+pub same_appended : (old new : Option (List ℕ)) (front before text : List ℕ)
+    → new ≡ appended old front → old ≡ Some before → new ≡ Some (before ++ text) → front ≡ text
+same_appended old new front before text adds was is =
+    let both : Some (before ++ front) ≡ Some (before ++ text) = ap (λ (o : Option (List ℕ)). appended o front) (sym was) ∙ sym adds ∙ is in
+    append_cancel_left before front text (same_Some (before ++ front) (before ++ text) both)
+
+-- What is met is the file of a command that has one.
+pub file_asked : (words : List (List ℕ)) (command : Command) (file : ℕ) (held : Held) (bytes : List ℕ) (met : List (Option (List ℕ))) → file_indexes command ≡ file ∷ []
+    → held (word_at words file) ≡ Some bytes → command_of words ≡ Some command → AreUnder (Some held) (words_at words (file ∷ [])) met
+    → expected words met ≡ bytes_answer command words (bytes ∷ [])
+file_asked words command file held bytes (under ∷ []) one at asked (is, last) =
+    let met_is : under ≡ Some bytes = sym (is held refl) ∙ at in
+    ap (command_answer words (under ∷ [])) asked ∙ ap (λ (u : Option (List ℕ)). files_answer command words (u ∷ [])) met_is
+    ∙ ap (λ (indexes : List ℕ). missing_or (first_missing (words_at words indexes) (Some bytes ∷ [])) (bytes_answer command words (bytes ∷ []))) one
+file_asked words command file held bytes [] one at asked h = absurd h
+file_asked words command file held bytes (under ∷ other ∷ met) one at asked h = absurd h.1

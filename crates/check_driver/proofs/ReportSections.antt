@@ -1,0 +1,132 @@
+-- The sections of the reports that were begun.
+use Rattle.std.proofs.Common.{◌≡◌, ◌≢◌, ℕ, Bool, List, [], ◌∷◌, ◌++◌, map, get_or, take, Option, Some, slice_get, slice_index_or, refl, sym, ap, subst, ◌∙◌, codes, arith}
+use Rattle.std.specs.Prelude.{Contains}
+use Rattle.std.specs.List.{AllByRecursion, flat_map}
+use Rattle.std.proofs.lemmas.Bool.{ne_eqb}
+use Rattle.cc_base.specs.Escapes.{escaped}
+use Rattle.cc_base.specs.Sink.{IsFront}
+use Rattle.cil_model.specs.declared.unit.CalleeInfo.{CalleeInfo}
+use Rattle.invariant_checker.specs.declared.verdict.Verdict.{Verdict}
+use Rattle.unit_builder.specs.Outcomes.{entries_of}
+use Rattle.unit_builder.specs.declared.entry.MethodEntry.{MethodEntry}
+use Rattle.unit_builder.specs.declared.entry.Outcome.{Outcome}
+use Rattle.answer_lines.specs.declared.lines.Counts.{Counts}
+use Rattle.answer_lines.proofs.SingleLines.{summary_front, summary_said}
+use Rattle.answer_lines.proofs.WholeLines.{IsOneLine, as_lines}
+use Rattle.check_driver.specs.CheckText.{Finding, NotAnalysed, WithVerdicts, all_counts, check_text, outcome_finding, outcome_shown, verdict_text}
+use Rattle.check_driver.specs.Checked.{AreBegun, IsReportable, report_of}
+use Rattle.check_driver.specs.Headline.{WasAppended}
+use Rattle.check_driver.specs.Sections.{begins_section, lines_of, section, sections_of}
+use Rattle.check_driver.proofs.Members.{all_of_each, held_at, taken_at}
+use Rattle.check_driver.proofs.OnlyFile.{same_appended}
+use Rattle.check_driver.proofs.PrintedSafety.{report_one_line}
+use Rattle.check_driver.proofs.ReportTexts.{all_behind}
+use Rattle.check_driver.proofs.Reported.{entry_said, finding_said, lines_behind, method_said, report_is_lines, report_said, shown_said, verdict_said, verdicts_said}
+use Rattle.check_driver.proofs.SectionLemmas.{IsInside, IsSection, front_of_lines, section_of_front}
+use Rattle.check_driver.proofs.ShownLines.{no_shown_line}
+
+-- ---- a report is a section
+
+-- A line that begins with another letter than that of `assembly` begins no section.
+inside : (line : List ℕ) → get_or line 0 0 ≢ 97 → IsInside line
+inside [] other = refl
+inside (letter ∷ line) other = rw (ne_eqb 97 letter (λ same. other (sym same))) refl
+
+method_inside : (token : ℕ) (name text : List ℕ) → IsInside (method_said token name text)
+unfolding method_said
+method_inside token name text = inside (method_said token name text) (λ e. let letters : 109 ≡ 97 = e in omega (arith, letters))
+
+verdict_inside : (callees : List CalleeInfo) (v : Verdict) → IsInside (verdict_said callees v)
+unfolding verdict_said
+verdict_inside callees v = inside (verdict_said callees v) (λ e. let letters : 32 ≡ 97 = e in omega (arith, letters))
+
+all_verdicts_inside : (callees : List CalleeInfo) (found : List Verdict) → AllByRecursion IsInside (map (verdict_said callees) found)
+all_verdicts_inside callees [] = tt
+all_verdicts_inside callees (v ∷ found) = (verdict_inside callees v, all_verdicts_inside callees found)
+
+verdicts_inside : (found : Finding) → AllByRecursion IsInside (verdicts_said found)
+unfolding verdicts_said
+verdicts_inside (WithVerdicts callees found) = all_verdicts_inside callees found
+verdicts_inside (NotAnalysed reason) = tt
+
+shown_inside : (show : Bool) (outcome : Outcome) → AllByRecursion IsInside (shown_said show outcome)
+unfolding shown_said
+shown_inside show outcome =
+    all_of_each IsInside (lines_of (outcome_shown show outcome))
+    (λ line has. inside line (λ letter. no_shown_line show outcome line (λ space. let letters : 97 ≡ 32 = sym letter ∙ space in omega (arith, letters)) has))
+
+entry_inside : (show : Bool) (entry : MethodEntry) → AllByRecursion IsInside (entry_said show entry)
+unfolding entry_said finding_said
+entry_inside show entry =
+    let found = outcome_finding entry.outcome in
+    all_behind IsInside (method_said entry.token.0 entry.name (verdict_text found) ∷ verdicts_said found) (shown_said show entry.outcome)
+    (method_inside entry.token.0 entry.name (verdict_text found), verdicts_inside found) (shown_inside show entry.outcome)
+
+entries_inside : (show : Bool) (entries : List MethodEntry) → AllByRecursion IsInside (flat_map (entry_said show) entries)
+entries_inside show [] = tt
+entries_inside show (entry ∷ entries) =
+    all_behind IsInside (entry_said show entry) (flat_map (entry_said show) entries) (entry_inside show entry) (entries_inside show entries)
+
+summary_inside : (n : Counts) → IsInside (summary_said n)
+unfolding summary_said summary_front
+summary_inside n = inside (summary_said n) (λ e. let letters : 115 ≡ 97 = e in omega (arith, letters))
+
+report_is_section : (name : List ℕ) (show : Bool) (bytes : List ℕ) → IsSection (report_said name show bytes)
+unfolding report_said
+report_is_section name show bytes = (
+  refl,
+  all_behind IsInside (flat_map (entry_said show) (entries_of bytes)) (summary_said (all_counts (entries_of bytes)) ∷ []) (entries_inside show (entries_of bytes))
+      (summary_inside (all_counts (entries_of bytes)), tt),
+)
+
+-- ---- the reports of several files
+
+abbrev pub said_of : Bool → List ℕ × List ℕ → List (List ℕ)
+said_of show (name, bytes) = report_said name show bytes
+
+abbrev KnownFiles : List (List ℕ × List ℕ) → Type 0
+KnownFiles files = AllByRecursion (λ file. IsReportable file.1) files
+
+are_lines : (show : Bool) (files : List (List ℕ × List ℕ)) → as_lines (flat_map (said_of show) files) ≡ flat_map (report_of show) files
+are_lines show [] = refl
+are_lines show ((name, bytes) ∷ files) =
+    lines_behind (report_said name show bytes) (flat_map (said_of show) files)
+    ∙ ap (λ (l : List ℕ). l ++ as_lines (flat_map (said_of show) files)) (report_is_lines name show bytes)
+    ∙ ap (λ (l : List ℕ). check_text name show bytes ++ l) (are_lines show files)
+
+are_one_line : (show : Bool) (files : List (List ℕ × List ℕ)) → KnownFiles files → AllByRecursion IsOneLine (flat_map (said_of show) files)
+are_one_line show [] known = tt
+are_one_line show ((name, bytes) ∷ files) known =
+    all_behind IsOneLine (report_said name show bytes) (flat_map (said_of show) files) (report_one_line name show bytes known.0.runnable) (are_one_line show files known.1)
+
+are_sections : (show : Bool) (files : List (List ℕ × List ℕ)) → AllByRecursion (λ file. IsSection (said_of show file)) files
+are_sections show [] = tt
+are_sections show ((name, bytes) ∷ files) = (report_is_section name show bytes, are_sections show files)
+
+-- ---- a line of a section
+
+-- File k can be reported, and its report has the line.
+pub record IsToldOf (show : Bool) (files : List (List ℕ × List ℕ)) (k : ℕ) (line : List ℕ) : Type 0 where
+  pub file : List ℕ × List ℕ
+  pub kth : slice_get files k ≡ Some file
+  pub known : IsReportable file.1
+  pub has : Contains (said_of show file) line
+
+-- A line of section k of what was appended is one of the report of file k.
+pub begun_section : (show : Bool) (files : List (List ℕ × List ℕ)) (old new : Option (List ℕ)) (text : List ℕ) (k : ℕ) (line : List ℕ) → AreBegun show files old new
+    → WasAppended old new text → Contains (section k text) line → IsToldOf show files k line
+begun_section show files old new text k line begun appended has =
+    let reported = take begun.count files in
+    let said = flat_map (said_of show) reported in
+    let (front, is_front, adds) = begun.front in
+    let same : front ≡ text = same_appended old new front appended.before text adds appended.was appended.is in
+    let whole : IsFront text (as_lines said) = subst (λ (t : List ℕ). IsFront t (as_lines said)) same (subst (IsFront front) (sym (are_lines show reported)) is_front) in
+    let first = front_of_lines text said (are_one_line show reported begun.each) whole in
+    let there = section_of_front (said_of show) reported first.0 k line (are_sections show reported)
+    (subst (λ (lines : List (List ℕ)). Contains (slice_index_or (sections_of lines) k []) line) first.1 has) in
+    record {
+      file = there.item;
+      kth = taken_at begun.count files k there.item there.kth;
+      known = held_at (λ file. IsReportable file.1) reported k there.item begun.each there.kth;
+      has = there.has;
+    }
