@@ -1,4 +1,4 @@
-use Rattle.std.proofs.Common.{◌≡◌, ℕ, max, List, [], ◌++◌, Some, Result, Ok, Err, get_or, if◌then◌else◌, refl, sym, ap, ◌∙◌, rules}
+use Rattle.std.proofs.Common.{◌≡◌, max, [], Some, Ok, get_or, refl, ap, ◌∙◌, rules}
 use Rattle.std.proofs.lemmas.Result.{err_from_is_err_and}
 use Rattle.asm_image.specs.Faults.{FirstBroken}
 use Rattle.answer_lines.specs.Answers.{refused_line}
