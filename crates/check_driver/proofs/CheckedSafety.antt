@@ -1,5 +1,5 @@
 -- Where the section of an assembly has the line that tells a method to be proved, the method is safe.
-use Rattle.std.proofs.Common.{◌≡◌, ℕ, Bool, List, [], ◌∷◌, ◌++◌, Option, Some, None, slice_get, codes, sym, ap, subst, ◌∙◌, append_assoc}
+use Rattle.std.proofs.Common.{◌≡◌, ℕ, Bool, List, [], ◌++◌, Option, Some, None, slice_get, codes, sym, ap, subst, ◌∙◌, append_assoc}
 use Rattle.std.specs.Prelude.{Contains, IfSome, is_some, unwrap_or}
 use Rattle.std.proofs.lemmas.Option.{none-some}
 use Rattle.asm_image.specs.Rows.{methods_of}
@@ -7,7 +7,6 @@ use Rattle.asm_image.specs.declared.method_row.MethodRow.{MethodRow}
 use Rattle.cc_base.specs.Digits.{hex}
 use Rattle.cc_base.specs.Files.{Held}
 use Rattle.command_words.specs.Words.{check_files, checked_files, command_of, words_at}
-use Rattle.command_words.specs.declared.check_words.CheckWords.{CheckWords}
 use Rattle.command_words.specs.declared.command.Command.{Command}
 use Rattle.command_words.specs.declared.command.Command.TheVariants as commands
 use Rattle.check_driver.specs.Checked.{AreHeldBegun, IfCheck, IsReportable, IsSafeMethod, held_files}

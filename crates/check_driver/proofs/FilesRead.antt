@@ -73,6 +73,16 @@ missing_behind told (first ∷ names) name others (under ∷ met) rest [] h of =
 missing_behind told [] name others (under ∷ met) rest read h of = absurd h
 missing_behind told (first ∷ names) name others [] rest read h of = absurd h
 
+-- As many were read as there are indexes.
+pub contents_long : (told : Option Held) (words : List (List ℕ)) (indexes : List ℕ) (met : List (Option (List ℕ))) (read : List (Vec ℕ Global))
+    → AreUnder told (words_at words indexes) met → AreContents met read → length read ≡ length indexes
+contents_long told words [] [] [] h of = refl
+contents_long told words (index ∷ indexes) (under ∷ met) (bytes ∷ read) h of = ap suc (contents_long told words indexes met read h.1 of.1)
+contents_long told words [] [] (bytes ∷ read) h of = absurd of
+contents_long told words [] (under ∷ met) read h of = absurd h
+contents_long told words (index ∷ indexes) [] read h of = absurd h
+contents_long told words (index ∷ indexes) (under ∷ met) [] h of = absurd of
+
 -- ---- the walk over the indexes
 
 -- The files of these indexes were read, and these were met.

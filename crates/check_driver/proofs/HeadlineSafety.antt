@@ -1,6 +1,6 @@
 -- Where all that a method reaches by calls was printed as proved, the method is safe in its world.
-use Rattle.std.proofs.Common.{◌≡◌, ◌⊎◌, ℕ, zero, suc, ◌+◌, ◌-◌, ◌<◌, ◌^◌, ◌==◌, ◌&&◌, nat_le, true, cond, List, [], ◌∷◌, ◌++◌, length, Option, Some, None, IsSome, slice_get, codes, refl, sym, ap, subst, ◌∙◌, append_assoc, inl, inr, arith}
-use Rattle.std.specs.Prelude.{Contains, IfSome}
+use Rattle.std.proofs.Common.{◌≡◌, ℕ, suc, ◌+◌, ◌-◌, ◌<◌, ◌^◌, ◌==◌, ◌&&◌, nat_le, true, cond, List, length, Option, Some, None, IsSome, slice_get, refl, sym, ap, subst, ◌∙◌, arith}
+use Rattle.std.specs.Prelude.{Contains}
 use Rattle.std.specs.List.{AllByRecursion, range_with_len}
 use Rattle.std.specs.Option.{option_and_then}
 use Rattle.std.proofs.lemmas.Bool.{le-leb}
@@ -174,6 +174,10 @@ module _ (told : Option Held) (words : List (List ℕ)) (held : Held) (k : ℕ) 
   safe : (method : MethodRow) → Contains (methods_of bytes) method → HasProvedLine (section k text) method → IsSafeMethod bytes method
   safe = section_safe told words held k bytes text old new is
 
+  each_safe : (method : MethodRow) → TellAllProved (section k text) bytes method → (reached : MethodRow) → Contains (methods_of bytes) reached
+      → Reaches (calls_of bytes) method.token.0 reached.token.0 → IsSafeMethod bytes reached
+  each_safe method all reached among reaches = safe reached among (all reached among reaches)
+
   reportable : (method : MethodRow) → Contains (methods_of bytes) method → TellAllProved (section k text) bytes method → IsReportable bytes
   reportable method has all = section_reportable told words held k bytes text old new is (proved_line method) (all method has itself)
 
@@ -181,10 +185,9 @@ module _ (told : Option Held) (words : List (List ℕ)) (held : Held) (k : ℕ) 
       → BeginsItsWorld bytes method × Safe (world_of bytes method.token.0) 0
   headline_safe method has all =
       let known = reportable method has all in
-      let each = λ reached among reaches. safe reached among (all reached among reaches) in
-      (begins_world bytes method known has each, safe_in_world bytes method known has each)
+      (begins_world bytes method known has (each_safe method all), safe_in_world bytes method known has (each_safe method all))
 
   pub headline_keeps : (method : MethodRow) → Contains (methods_of bytes) method → TellAllProved (section k text) bytes method
       → RunsKeepArrays (world_of bytes method.token.0)
   headline_keeps method has all =
-      keeps_arrays bytes method (reportable method has all) has (λ reached among reaches. safe reached among (all reached among reaches))
+      keeps_arrays bytes method (reportable method has all) has (each_safe method all)

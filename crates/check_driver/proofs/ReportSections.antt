@@ -1,9 +1,8 @@
 -- The sections of the reports that were begun.
-use Rattle.std.proofs.Common.{◌≡◌, ◌≢◌, ℕ, Bool, List, [], ◌∷◌, ◌++◌, map, get_or, take, Option, Some, slice_get, slice_index_or, refl, sym, ap, subst, ◌∙◌, codes, arith}
+use Rattle.std.proofs.Common.{◌≡◌, ◌≢◌, ℕ, Bool, List, [], ◌∷◌, ◌++◌, map, get_or, take, Option, Some, slice_get, slice_index_or, refl, sym, ap, subst, ◌∙◌, arith}
 use Rattle.std.specs.Prelude.{Contains}
 use Rattle.std.specs.List.{AllByRecursion, flat_map}
 use Rattle.std.proofs.lemmas.Bool.{ne_eqb}
-use Rattle.cc_base.specs.Escapes.{escaped}
 use Rattle.cc_base.specs.Sink.{IsFront}
 use Rattle.cil_model.specs.declared.unit.CalleeInfo.{CalleeInfo}
 use Rattle.invariant_checker.specs.declared.verdict.Verdict.{Verdict}
@@ -16,7 +15,7 @@ use Rattle.answer_lines.proofs.WholeLines.{IsOneLine, as_lines}
 use Rattle.check_driver.specs.CheckText.{Finding, NotAnalysed, WithVerdicts, all_counts, check_text, outcome_finding, outcome_shown, verdict_text}
 use Rattle.check_driver.specs.Checked.{AreBegun, IsReportable, report_of}
 use Rattle.check_driver.specs.Headline.{WasAppended}
-use Rattle.check_driver.specs.Sections.{begins_section, lines_of, section, sections_of}
+use Rattle.check_driver.specs.Sections.{lines_of, section, sections_of}
 use Rattle.check_driver.proofs.Members.{all_of_each, held_at, taken_at}
 use Rattle.check_driver.proofs.OnlyFile.{same_appended}
 use Rattle.check_driver.proofs.PrintedSafety.{report_one_line}

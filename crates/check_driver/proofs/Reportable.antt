@@ -1,5 +1,5 @@
 -- What is known of the files whose reports were begun.
-use Rattle.std.proofs.Common.{◌≡◌, ◌⊎◌, ℕ, zero, suc, Bool, List, [], ◌∷◌, length, take, zip, Vec, Global, Option, Some, None, is_some, unwrap_or, sym, ap, subst, ◌∙◌, arith, inl, inr, length-take, refl}
+use Rattle.std.proofs.Common.{◌≡◌, ℕ, zero, suc, Bool, List, [], ◌∷◌, length, take, zip, Vec, Global, Option, Some, None, is_some, unwrap_or, sym, ap, subst, ◌∙◌, arith, inl, inr, length-take, refl}
 use Rattle.std.specs.List.{AllByRecursion, flat_map}
 use Rattle.std.proofs.lemmas.Bool.{cases_lt}
 use Rattle.std.proofs.lemmas.List.{take_all}

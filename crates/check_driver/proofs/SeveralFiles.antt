@@ -1,12 +1,13 @@
 -- The answers for the assemblies of a check, one after another: what is written, what is begun and what is asked.
-use Rattle.std.proofs.Common.{◌≡◌, ◌⊎◌, ℕ, suc, max, Bool, List, [], ◌∷◌, ◌++◌, take, length, Vec, Global, Option, Result, Ok, Err, refl, sym, ap, subst, ◌∙◌, append_assoc, append-nil, inl, inr, arith}
+use Rattle.std.proofs.Common.{◌≡◌, ◌⊎◌, ℕ, suc, ◌-◌, ◌<◌, ◌≤◌, max, Bool, List, [], ◌∷◌, ◌++◌, take, drop, length, get_or, zip, Vec, Global, Option, Some, None, Result, Ok, Err, if◌then◌else◌, refl, sym, ap, subst, ◌∙◌, append_assoc, append-nil, inl, inr, arith}
 use Rattle.std.specs.Prelude.{IsErrOf}
 use Rattle.std.specs.List.{flat_map}
+use Rattle.std.proofs.Math.Seq.{take-length}
 use Rattle.cc_base.specs.Counts.{Rose}
 use Rattle.cc_base.specs.Sink.{AppendsFront, appended, counted}
 use Rattle.cc_base.proofs.CountLemmas.{Kept-Rose, Kept-refl, Kept-trans}
 use Rattle.cc_base.proofs.SinkLemmas.{AppendsFront-after, AppendsFront-more, AppendsFront-none, appended-appended, appended-nil}
-use Rattle.answer_lines.specs.Answers.{Answer, output_answer}
+use Rattle.answer_lines.specs.Answers.{Answer, output_answer, refused_answer}
 use Rattle.answer_lines.specs.LineCounts.{line_count}
 use Rattle.answer_lines.specs.Outcome.{Gives}
 use Rattle.answer_lines.specs.Writing.{Change, Writes}
@@ -14,8 +15,14 @@ use Rattle.answer_lines.specs.declared.interrupt.Interrupt.{Interrupt}
 use Rattle.answer_lines.specs.declared.interrupt.Interrupt.TheVariants as interrupts
 use Rattle.answer_lines.proofs.LineLemmas.{counted-lines, puts_none}
 use Rattle.answer_lines.proofs.Writings.{change, gives_output}
-use Rattle.check_driver.specs.Asked.{Asks, AsksFront, unseen}
-use Rattle.check_driver.specs.CheckText.{check_text}
+use Rattle.assembly_answers.specs.FaultText.{assembly_fault_text}
+use Rattle.asm_image.specs.Faults.{FirstBroken}
+use Rattle.asm_image.specs.declared.fault.AsmFault.{AsmFault}
+use Rattle.command_words.specs.Words.{word_at, words_at}
+use Rattle.unit_builder.specs.Outcomes.{entries_of}
+use Rattle.check_driver.specs.Asked.{Asks, AsksFront, check_keys, judged_keys, keys_before, unseen}
+use Rattle.check_driver.specs.CheckText.{all_methods_proved, check_text}
+use Rattle.check_driver.specs.Expected.{check_answer, checked_before}
 use Rattle.check_driver.specs.Checked.{AreBegun, IsReportable, report_of}
 use Rattle.check_driver.specs.Met.{bytes_read}
 use Rattle.check_driver.specs.NothingOr.{NothingOr}
@@ -34,7 +41,7 @@ gives_nothing o e p q f g =
     (record { whole = sym (appended-nil o); puts = puts_none p; front = tt; cause = λ is. absurd cc; kept = Kept-refl f })
 
 -- The answer for the first assembly, and for those after it.
-abbrev answer_then : List ℕ → ℕ → Answer → Answer
+abbrev pub answer_then : List ℕ → ℕ → Answer → Answer
 answer_then text status others = record { out = text ++ others.out; err = others.err; status = max status others.status }
 
 cannot_write : {X Y : Type 0} (i : Interrupt) → IsErrOf {T = X} (Err i) interrupts.CannotWrite → IsErrOf {T = Y} (Err i) interrupts.CannotWrite
@@ -80,20 +87,24 @@ module _ {X : Type 0} (x : X) (text : List ℕ) (first status : ℕ) (others : A
       later_cause (inr rose) = inr rose
 
   -- All were answered.
-  pub gives_both : (later : ℕ) → Gives others (Ok later) (change o1 o2 p1 p2 f1 f2) err
-      → Gives (answer_then text first others) (Ok (max status later)) (change o0 o2 p0 p2 f0 f2) err
-  gives_both later gives = record {
-    status = ap (λ (n : ℕ). max n later) is_first ∙ ap (max first) gives.status;
+  pub gives_both : (later greater : ℕ) → greater ≡ max status later → Gives others (Ok later) (change o1 o2 p1 p2 f1 f2) err
+      → Gives (answer_then text first others) (Ok greater) (change o0 o2 p0 p2 f0 f2) err
+  gives_both later greater is gives = record {
+    status = is ∙ ap (λ (n : ℕ). max n later) is_first ∙ ap (max first) gives.status;
     out_all = gives.out_all ∙ ap (λ (o : Option (List ℕ)). appended o others.out) w.whole ∙ appended-appended o0 text others.out;
     err_all = gives.err_all;
     out_puts = gives.out_puts ∙ ap (λ (p : Option ℕ). counted (line_count others.out) p) w.puts ∙ counted-lines text others.out p0;
     err_puts = gives.err_puts;
     out_front = tt;
     err_front = tt;
-    cause = λ is. absurd cc;
+    cause = λ never. absurd cc;
     out_kept = Kept-trans f0 f1 f2 w.kept gives.out_kept;
     err_kept = gives.err_kept;
   }
+
+-- An answer that is equal to one that was given.
+pub gives_is : (a b : Answer) (r : Result ℕ Interrupt) (out err : Change) → a ≡ b → Gives b r out err → Gives a r out err
+gives_is a b r out err same gives = subst (λ (x : Answer). Gives x r out err) (sym same) gives
 
 -- ---- what is begun
 
@@ -137,8 +148,73 @@ front_then seen first later old new front =
     subst (λ (keys : Keys). AsksFront keys old new) (sym (unseen_behind seen first later))
     (front_more (unseen seen first) (unseen (seen ++ unseen seen first) later) old new front)
 
--- ---- no file
+pub asks_is : {X E : Type 0} (seen a b : Keys) (r : Result X E) (old new : Keys) → a ≡ b → Asks (unseen seen b) r old new → Asks (unseen seen a) r old new
+asks_is seen a b r old new same asks = subst (λ (keys : Keys). Asks (unseen seen keys) r old new) (sym same) asks
 
-pub no_file : (read : List (Vec ℕ Global)) → length read ≡ 0 → bytes_read read ≡ []
+-- ---- the files
+
+pub no_file : (read : List (Vec ℕ Global)) → length read < 1 → bytes_read read ≡ []
 no_file [] none = refl
 no_file (bytes ∷ read) none = absurd (omega (arith, none))
+
+-- Where no word names a file, the answer is that for none.
+pub no_answer : (show : Bool) (words : List (List ℕ)) (indexes : List ℕ) (files : List (List ℕ)) → length indexes < 1 → check_answer show (words_at words indexes) files ≡ output_answer 0 []
+no_answer show words [] files none = refl
+no_answer show words (index ∷ indexes) files none = absurd (omega (arith, none))
+
+-- What stands behind the first element.
+abbrev pub rest_of : {X : Type 0} → List X → List X
+rest_of all = take (length all - 1) (drop 1 all)
+
+parts_of : {X : Type 0} (all : List X) (first d : X) → 1 ≤ length all → get_or all 0 d ≡ first → all ≡ first ∷ rest_of all
+parts_of [] first d some is = absurd (omega (arith, some))
+parts_of {X} (x ∷ rest) first d some is =
+    let many : length rest ≡ length (x ∷ rest) - 1 = omega arith in
+    ap (λ (y : X). y ∷ rest) is ∙ ap (λ (others : List X). first ∷ others) (sym (take-length rest) ∙ ap (λ (k : ℕ). take k rest) many)
+
+-- The first file of a check has this name and these bytes.
+pub record IsFirst (words : List (List ℕ)) (indexes : List ℕ) (read : List (Vec ℕ Global)) (name file : List ℕ) : Type 0 where
+  pub names : words_at words indexes ≡ name ∷ words_at words (rest_of indexes)
+  pub bytes : bytes_read read ≡ file ∷ bytes_read (rest_of read)
+
+pub first_is : (words : List (List ℕ)) (indexes : List ℕ) (read : List (Vec ℕ Global)) (name file : List ℕ) (index : ℕ) (bytes : Vec ℕ Global) → 1 ≤ length indexes → 1 ≤ length read
+    → get_or indexes 0 0 ≡ index → bytes ≡ get_or read 0 bytes → name ≡ word_at words index → file ≡ bytes.items → IsFirst words indexes read name file
+first_is words indexes read name file index bytes some some_read at is named same = record {
+  names = ap (words_at words) (parts_of indexes index 0 some at) ∙ ap (λ (n : List ℕ). n ∷ words_at words (rest_of indexes)) (sym named);
+  bytes = ap bytes_read (parts_of read bytes bytes some_read (sym is)) ∙ ap (λ (b : List ℕ). b ∷ bytes_read (rest_of read)) (sym same);
+}
+
+module _ (show : Bool) (words : List (List ℕ)) (indexes : List ℕ) (read : List (Vec ℕ Global)) (name file : List ℕ) (is : IsFirst words indexes read name file) where
+  abbrev pub others_answer : Answer
+  others_answer = check_answer show (words_at words (rest_of indexes)) (bytes_read (rest_of read))
+
+  answer_is : (fault : Option AsmFault) → FirstBroken file ≡ fault
+      → check_answer show (words_at words indexes) (bytes_read read) ≡ checked_before name show file fault others_answer
+  answer_is fault first =
+      ap (λ (names : List (List ℕ)). check_answer show names (bytes_read read)) is.names
+      ∙ ap (check_answer show (name ∷ words_at words (rest_of indexes))) is.bytes
+      ∙ ap (λ (found : Option AsmFault). checked_before name show file found others_answer) first
+
+  pub answer_of_first : FirstBroken file ≡ None
+      → check_answer show (words_at words indexes) (bytes_read read) ≡ answer_then (check_text name show file) (if all_methods_proved file then 0 else 1) others_answer
+  answer_of_first accepted = answer_is None accepted
+
+  pub answer_refused : (fault : AsmFault) → FirstBroken file ≡ Some fault
+      → check_answer show (words_at words indexes) (bytes_read read) ≡ refused_answer name (assembly_fault_text fault.cause) fault.at
+  answer_refused fault first = answer_is (Some fault) first
+
+  keys_are : (fault : Option AsmFault) → FirstBroken file ≡ fault → check_keys (bytes_read read) ≡ keys_before file fault (check_keys (bytes_read (rest_of read)))
+  keys_are fault first = ap check_keys is.bytes ∙ ap (λ (found : Option AsmFault). keys_before file found (check_keys (bytes_read (rest_of read)))) first
+
+  pub keys_of_first : FirstBroken file ≡ None → check_keys (bytes_read read) ≡ judged_keys (entries_of file) ++ check_keys (bytes_read (rest_of read))
+  keys_of_first accepted = keys_are None accepted
+
+  pub no_keys : (fault : AsmFault) → FirstBroken file ≡ Some fault → check_keys (bytes_read read) ≡ []
+  no_keys fault first = keys_are (Some fault) first
+
+  -- What was begun of this file and of those after it was begun of all.
+  pub begun_of_first : (old new : Option (List ℕ)) → AreBegun show ((name, file) ∷ zip (words_at words (rest_of indexes)) (bytes_read (rest_of read))) old new
+      → AreBegun show (zip (words_at words indexes) (bytes_read read)) old new
+  begun_of_first old new begun =
+      subst (λ (files : List (List ℕ × List ℕ)). AreBegun show files old new)
+      (sym (ap (λ (names : List (List ℕ)). zip names (bytes_read read)) is.names ∙ ap (zip (name ∷ words_at words (rest_of indexes))) is.bytes)) begun
