@@ -1,8 +1,9 @@
-//! Runs cases of the text of invariants.
+//! Runs cases of the text and of the bytes of invariants.
 //!
 //! The words are the names of files of cases. docs/CASES.md says how a case is written.
 #![tactic(auto)]
 
+mod bytes;
 mod rules;
 mod told;
 

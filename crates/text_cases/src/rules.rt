@@ -1,5 +1,6 @@
 //! The rules, by the keywords of cases.
 
+use crate::bytes::{test_bytes, test_reading};
 use crate::told::told_text;
 use abs_state::AbsState;
 use cil_model::{List, Place, Unit};
@@ -131,6 +132,14 @@ impl Rules for TextRules {
             }
             "text" => {
                 self.test(argument)?;
+                Ok(Line::Answer)
+            }
+            "bytes" => {
+                test_bytes(self.alloc, &self.states, argument)?;
+                Ok(Line::Answer)
+            }
+            "read" => {
+                test_reading(self.alloc, argument)?;
                 Ok(Line::Answer)
             }
             _ => Err(Failure::Unread("a keyword")),

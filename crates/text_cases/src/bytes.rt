@@ -1,0 +1,70 @@
+//! The bytes of states, read and written.
+
+ghost use Rattle.std.specs.Prelude.{◌≤◌, length, IfOk};
+
+use abs_state::AbsState;
+use case_reader::bytes_of_hex;
+use cc_base::{Refusal, put_hex};
+use domain_api::NoMemory;
+use invariant_codec::{InvFault, read_states, states_bytes};
+use rule_text::{Failure, asked, check, check_yes};
+use std::alloc::Global;
+
+/// The most bytes that a case tells.
+const MOST_BYTES: usize = 65_536;
+
+/// The bytes that a case tells.
+fn told_bytes(alloc: Global, hex: &str) -> Result<Vec<u8>, Failure>
+    ensures few { IfOk result (λ bytes. length bytes.items ≤ 65536) }
+{
+    let Some(bytes) = bytes_of_hex(alloc, hex)? else {
+        return Err(Failure::Unread("bytes"));
+    };
+    if bytes.len() > MOST_BYTES {
+        return Err(Failure::Unread("fewer bytes"));
+    }
+    Ok(bytes)
+}
+
+/// A fault as a case tells it: its name, and its offset.
+fn fault_text(alloc: Global, fault: InvFault) -> Result<Vec<u8>, NoMemory> {
+    let (name, at) = match fault {
+        InvFault::Short(at) => (b"short ".as_slice(), at),
+        InvFault::Form(at) => (b"form ".as_slice(), at),
+    };
+    let mut text = Vec::from_slice(alloc, name)?;
+    put_hex(alloc, &mut text, at, 8)?;
+    Ok(text)
+}
+
+/// What reading bytes gives, as a case tells it: `ok` where they are those of states, which are written so again.
+fn reading(alloc: Global, bytes: &[u8]) -> Result<Vec<u8>, NoMemory>
+    requires short { length bytes.now ≤ 65536 }
+{
+    match read_states(alloc, bytes) {
+        Ok(states) => {
+            let again = states_bytes(alloc, &states)?;
+            let is_same = again.as_slice() == bytes;
+            Vec::from_slice(alloc, if is_same { b"ok" } else { b"other bytes" })
+        }
+        Err(Refusal::Bad(fault)) => fault_text(alloc, fault),
+        Err(Refusal::NoMemory) => Err(NoMemory),
+    }
+}
+
+/// `read HEX = ok`, or the fault, as `short 00000003` or `form 00000002`: what reading these bytes gives.
+pub fn test_reading(alloc: Global, argument: &str) -> Result<(), Failure> {
+    let (hex, told) = asked(argument)?;
+    let bytes = told_bytes(alloc, hex)?;
+    match String::from_utf8(reading(alloc, &bytes)?) {
+        Ok(found) => check(found, told),
+        Err(_) => Err(Failure::Unread("a text")),
+    }
+}
+
+/// `bytes HEX`: the bytes of these states.
+pub fn test_bytes(alloc: Global, states: &[AbsState], hex: &str) -> Result<(), Failure> {
+    let told = told_bytes(alloc, hex)?;
+    let found = states_bytes(alloc, states)?;
+    check_yes(alloc, found.as_slice() == told.as_slice(), "yes")
+}
