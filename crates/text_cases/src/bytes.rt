@@ -5,10 +5,9 @@ ghost use Rattle.std.specs.Prelude.{◌≤◌, length, IfOk};
 use abs_state::AbsState;
 use case_reader::bytes_of_hex;
 use cc_base::{Refusal, put_hex};
-use domain_api::NoMemory;
 use invariant_codec::{InvFault, read_states, states_bytes};
 use rule_text::{Failure, asked, check, check_yes};
-use std::alloc::Global;
+use std::alloc::{AllocError, Global};
 
 /// The most bytes that a case tells.
 const MOST_BYTES: usize = 65_536;
@@ -27,7 +26,7 @@ fn told_bytes(alloc: Global, hex: &str) -> Result<Vec<u8>, Failure>
 }
 
 /// A fault as a case tells it: its name, and its offset.
-fn fault_text(alloc: Global, fault: InvFault) -> Result<Vec<u8>, NoMemory> {
+fn fault_text(alloc: Global, fault: InvFault) -> Result<Vec<u8>, AllocError> {
     let (name, at) = match fault {
         InvFault::Short(at) => (b"short ".as_slice(), at),
         InvFault::Form(at) => (b"form ".as_slice(), at),
@@ -38,7 +37,7 @@ fn fault_text(alloc: Global, fault: InvFault) -> Result<Vec<u8>, NoMemory> {
 }
 
 /// What reading bytes gives, as a case tells it: `ok` where they are those of states, which are written so again.
-fn reading(alloc: Global, bytes: &[u8]) -> Result<Vec<u8>, NoMemory>
+fn reading(alloc: Global, bytes: &[u8]) -> Result<Vec<u8>, AllocError>
     requires short { length bytes.now ≤ 65536 }
 {
     match read_states(alloc, bytes) {
@@ -48,7 +47,7 @@ fn reading(alloc: Global, bytes: &[u8]) -> Result<Vec<u8>, NoMemory>
             Vec::from_slice(alloc, if is_same { b"ok" } else { b"other bytes" })
         }
         Err(Refusal::Bad(fault)) => fault_text(alloc, fault),
-        Err(Refusal::NoMemory) => Err(NoMemory),
+        Err(Refusal::NoMemory) => Err(AllocError),
     }
 }
 
