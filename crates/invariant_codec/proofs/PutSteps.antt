@@ -86,9 +86,6 @@ segments_written parts are reached =
       written = all_written (length parts.ranges) (lengths_of parts.references) parts.contents formed;
     }
 
-pub ranges_written : (parts : StateParts) → AreParts parts → parts.reached ≡ true → AllByRecursion IsNarrow parts.ranges
-ranges_written parts are reached = (are.reached reached).form.narrow
-
 pub each_of_form : {X : Type 0} (f : X → Segments) (xs : List X) → AllByRecursion IsWritten (map f xs)
     → All (λ x. IsWritten (f x)) xs
 each_of_form f [] all k d there = absurd (omega (arith, there))

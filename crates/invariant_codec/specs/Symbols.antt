@@ -22,11 +22,13 @@ var_tag vars.Text = 3
 
 abbrev pub number_in : Var → Expr
 number_in (vars.Number e) = e
-number_in _ = zero_expr
+number_in (vars.Reference r) = zero_expr
+number_in vars.Text = zero_expr
 
 abbrev pub reference_in : Var → ℕ
+reference_in (vars.Number e) = 0
 reference_in (vars.Reference r) = r
-reference_in _ = 0
+reference_in vars.Text = 0
 
 abbrev pub var_of : (symbols references tag : ℕ) → Format Var
 var_of symbols references tag =
