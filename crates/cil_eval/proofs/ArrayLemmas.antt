@@ -15,7 +15,7 @@ use Rattle.cil_eval.specs.declared.action.Action.{Action}
 use Rattle.cil_eval.specs.declared.action.Action.TheVariants as actions
 
 -- What holds of both branches holds of a condition, over two that are chosen by it.
-cond_both₂ : {X Y : Type 0} (b : Bool) {x y : X} {u v : Y} (P : X → Y → Type 0) → P x u → P y v → P (if b then x else y) (if b then u else v)
+pub cond_both₂ : {X Y : Type 0} (b : Bool) {x y : X} {u v : Y} (P : X → Y → Type 0) → P x u → P y v → P (if b then x else y) (if b then u else v)
 cond_both₂ true P h k = h
 cond_both₂ false P h k = k
 
@@ -70,7 +70,7 @@ pub loads_by : (cells : ℕ) (place : Place) (n : ℤ) (a : ℕ) (action : Actio
 loads_by cells place n a action old rest heap is e s i = rw (is, e) (loads_from cells s i heap rest place n (slice_get heap a))
 
 same_after : (action : Action) (place : Place) (heap : Heap) (a : ℕ) (n v : ℤ) (s : State) (i : Instr) (rest : List Value) (cells : ℕ)
-    → after cells s i heap rest place n a v action (slice_get heap a) ≡ stored_heap action place heap a n v
+    → after cells s i heap rest place n a v action (slice_get heap a) ≡ stored_heap action place heap a (unsigned_abs n) v
 same_after actions.Next place heap a n v s i rest cells = refl
 same_after (actions.Push value) place heap a n v s i rest cells = refl
 same_after (actions.Jump at) place heap a n v s i rest cells = refl
@@ -80,13 +80,13 @@ same_after actions.Cells place heap a n v s i rest cells = refl
 same_after actions.Stuck place heap a n v s i rest cells = refl
 
 -- A store that ends the run leaves the heap.
-pub stored_at_end : (action : Action) (place : Place) (heap : Heap) (a : ℕ) (n v : ℤ) → run_goes_on action ≡ false → stored_heap action place heap a n v ≡ heap
+pub stored_at_end : (action : Action) (place : Place) (heap : Heap) (a n : ℕ) (v : ℤ) → run_goes_on action ≡ false → stored_heap action place heap a n v ≡ heap
 stored_at_end actions.Next place heap a n v e = absurd cc
 stored_at_end _ place heap a n v e = refl
 
 pub stores_by : (cells : ℕ) (place : Place) (n v : ℤ) (a : ℕ) (action : Action) (value : Value) (old rest : List Value) (heap new : Heap)
     → value ≡ values.Int v → old ≡ values.Int n ∷ values.Array a ∷ rest → action ≡ bounded place n (slice_get heap a)
-    → new ≡ stored_heap action place heap a n v → DoesOver cells (stores_value place value) action old rest heap new
+    → new ≡ stored_heap action place heap a (unsigned_abs n) v → DoesOver cells (stores_value place value) action old rest heap new
 stores_by cells place n v a action value old rest heap new one is e to s i =
     rw (one, is) (stores_from cells s i heap rest place n a v (slice_get heap a)
     ∙ ap (λ (x : Action). acted x rest (after cells s i heap rest place n a v x (slice_get heap a)) s i) (sym e)

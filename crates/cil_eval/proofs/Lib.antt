@@ -1,6 +1,7 @@
 pub mod TurnSteps
 pub mod OutcomeRows
 pub mod ArrayLemmas
+pub mod AddressLemmas
 pub mod TakenLemmas
 pub mod ActLemmas
 pub mod CallLemmas

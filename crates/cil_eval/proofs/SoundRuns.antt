@@ -38,6 +38,7 @@ is_length heap (values.Native n) is = is
 is_length heap (values.Int n) is = tt
 is_length heap values.Null is = tt
 is_length heap (values.Array a) is = tt
+is_length heap (values.Addr a n) is = tt
 is_length heap values.Text is = tt
 
 are_lengths : (heap : Heap) (vs : List Value) → AllByRecursion (IsValue heap) vs → AllByRecursion IsLength vs

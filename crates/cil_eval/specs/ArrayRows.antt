@@ -31,8 +31,8 @@ abbrev pub loads_there : Place → ℤ → Option ArrayCell → Action
 loads_there place n cell = loaded (bounded place n cell) (option_and_then (λ cell. slice_get cell.items (unsigned_abs n)) cell)
 
 -- The item is stored where the array has it.
-abbrev pub stored_heap : Action → Place → Heap → ℕ → ℤ → ℤ → Heap
-stored_heap actions.Next place heap a n v = replaced heap a (unsigned_abs n) (item_of place v)
+abbrev pub stored_heap : Action → Place → Heap → ℕ → ℕ → ℤ → Heap
+stored_heap actions.Next place heap a n v = replaced heap a n (item_of place v)
 stored_heap action place heap a n v = heap
 
 -- A store of a value that is taken from the stack already.

@@ -52,6 +52,9 @@ flow_of (ops.NewArray number) = flows.Stays
 flow_of ops.Length = flows.Stays
 flow_of (ops.LoadElem place) = flows.Stays
 flow_of (ops.StoreElem place) = flows.Stays
+flow_of (ops.LoadAddr number) = flows.Stays
+flow_of (ops.LoadInd place) = flows.Stays
+flow_of (ops.StoreInd place) = flows.Stays
 
 -- The unit can be run: its instructions begin one after another, no further than IL offsets go, it has no more
 -- variables and old values than there is memory for, no more clauses than can be numbered, and no old value reads the

@@ -135,6 +135,9 @@ after_op w limits s unit i (ops.NewArray number) = after_effects limits.cells s 
 after_op w limits s unit i ops.Length = after_effects limits.cells s i (effects unit i s.running s.heap)
 after_op w limits s unit i (ops.LoadElem place) = after_effects limits.cells s i (effects unit i s.running s.heap)
 after_op w limits s unit i (ops.StoreElem place) = after_effects limits.cells s i (effects unit i s.running s.heap)
+after_op w limits s unit i (ops.LoadAddr number) = after_effects limits.cells s i (effects unit i s.running s.heap)
+after_op w limits s unit i (ops.LoadInd place) = after_effects limits.cells s i (effects unit i s.running s.heap)
+after_op w limits s unit i (ops.StoreInd place) = after_effects limits.cells s i (effects unit i s.running s.heap)
 
 abbrev pub after_instr : World → Limits → State → MethodUnit → Option Instr → Turn
 after_instr w limits s unit None = Stuck

@@ -1,6 +1,6 @@
 //! What the instructions do that read and write arrays (ECMA-335 III.4).
 
-ghost use Rattle.std.specs.Prelude.{◌≡◌, ℕ, List, slice_get, false};
+ghost use Rattle.std.specs.Prelude.{◌≡◌, ℕ, List, slice_get, unsigned_abs, false};
 ghost use Rattle.std.specs.List.{AllByRecursion};
 ghost use Rattle.cil_model.specs.Effects as effects;
 ghost use Rattle.cil_model.specs.declared.instruction.Instr.{Instr};
@@ -70,7 +70,7 @@ pub(crate) fn length(stack: &mut Pile<Value>, memory: &Memory) -> Action
 }
 
 /// Returns whether an array of this type has an item at an index, or else why not.
-fn bound(place: Place, index: u32, n: i32, memory: &Memory) -> Action
+pub(crate) fn bound(place: Place, index: u32, n: i32, memory: &Memory) -> Action
     ensures { result ≡ bounded place n (slice_get memory.now.heap index) }
 {
     let Some(array) = memory.array(index) else {
@@ -118,7 +118,7 @@ pub(crate) fn load(place: Place, stack: &mut Pile<Value>, memory: &Memory) -> Ac
 }
 
 /// A number as it is stored in an array of this type.
-fn item_of(place: Place, n: i32) -> i32
+pub(crate) fn item_of(place: Place, n: i32) -> i32
     ensures { result ≡ effects.item_of place n }
 {
     match place {
@@ -131,7 +131,7 @@ fn item_of(place: Place, n: i32) -> i32
 #[tactic(auto, using(crate::proofs::ArrayLemmas::stored_at_end))]
 fn store_item(place: Place, index: u32, n: i32, item: i32, memory: &mut Memory) -> Action
     ensures action { result ≡ bounded place n (slice_get memory.old.heap index) }
-    ensures heap { memory.new.heap ≡ stored_heap result place memory.old.heap index n item }
+    ensures heap { memory.new.heap ≡ stored_heap result place memory.old.heap index (unsigned_abs n) item }
     ensures ended { goes_on result ≡ false → memory.new.heap ≡ memory.old.heap }
     ensures limit { memory.new.limit ≡ memory.old.limit }
 {

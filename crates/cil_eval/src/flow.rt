@@ -54,6 +54,9 @@ pub(crate) fn flow_of(op: &Op) -> Flow
         | Op::NewArray(_)
         | Op::Length
         | Op::LoadElem(_)
-        | Op::StoreElem(_) => Flow::Stays,
+        | Op::StoreElem(_)
+        | Op::LoadAddr(_)
+        | Op::LoadInd(_)
+        | Op::StoreInd(_) => Flow::Stays,
     }
 }

@@ -3,6 +3,7 @@
 
 mod act;
 mod action;
+mod address_rows;
 mod arguments;
 mod array_rows;
 mod calls;

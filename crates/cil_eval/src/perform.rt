@@ -9,7 +9,7 @@ ghost use Rattle.cil_eval.specs.StackRows.{IsLength, contract_row};
 
 use crate::action::Action;
 use crate::frames::Frames;
-use crate::{array_rows, stack_rows};
+use crate::{address_rows, array_rows, stack_rows};
 use cil_model::{Op, Place, UnOp, Unit, UnitCall, Value, array_place, unit_call};
 use clause_eval::{Memory, Pile, put};
 
@@ -125,5 +125,10 @@ pub(crate) fn perform(op: &Op, unit: &Unit, frames: &mut Frames, memory: &mut Me
         Op::Length => array_rows::length(&mut frames.stack, memory),
         Op::LoadElem(place) => array_rows::load(*place, &mut frames.stack, memory),
         Op::StoreElem(place) => array_rows::store(*place, &mut frames.stack, memory),
+        Op::LoadAddr(number) => {
+            address_rows::address(array_place(*number), &mut frames.stack, memory)
+        }
+        Op::LoadInd(place) => address_rows::load(*place, &mut frames.stack, memory),
+        Op::StoreInd(place) => address_rows::store(*place, &mut frames.stack, memory),
     }
 }

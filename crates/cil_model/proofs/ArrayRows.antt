@@ -1,4 +1,4 @@
--- What the instructions of arrays and the calls of Assert and Assume do, and which fault comes first.
+-- What the instructions of arrays and addresses and the calls of Assert and Assume do, and which fault comes first.
 use Rattle.std.proofs.Common.{◌≡◌, ℕ, ℤ, pos, negsuc, List, [], ◌∷◌, refl}
 use Rattle.cil_model.specs.Effects.{Effect, GoesOn, Faults, Assumes, FindsNoRoom, effects}
 use Rattle.cil_model.specs.UnitCalls.{unit_call}
@@ -9,7 +9,7 @@ use Rattle.cil_model.specs.declared.machine.ArrayCell.{ArrayCell}
 use Rattle.cil_model.specs.declared.machine.FaultKind.TheVariants as faults
 use Rattle.cil_model.specs.declared.machine.Frame.{Frame}
 use Rattle.cil_model.specs.declared.machine.Value.{Value}
-use Rattle.cil_model.specs.declared.machine.Value.TheVariants.{Int, Native, Null, Array, Text}
+use Rattle.cil_model.specs.declared.machine.Value.TheVariants.{Int, Native, Null, Array, Addr, Text}
 use Rattle.cil_model.specs.declared.place.Place.TheVariants.{Void, Bools, Ints}
 use Rattle.cil_model.proofs.SmallRuns.{small}
 
@@ -95,6 +95,66 @@ store_is_below = refl
 
 store_is_beyond : Does (ops.StoreElem Ints) (Int (pos 9) ∷ Int (pos 2) ∷ Array 0 ∷ []) (Faults faults.Upper ∷ [])
 store_is_beyond = refl
+
+-- ---- ldelema: the index is the top
+
+address_is_taken : Does (ops.LoadAddr 2) (Int (pos 1) ∷ Array 0 ∷ []) (on (Addr 0 1 ∷ []) heap)
+address_is_taken = refl
+
+address_of_a_bool : Does (ops.LoadAddr 1) (Int (pos 0) ∷ Array 1 ∷ []) (on (Addr 1 0 ∷ []) heap)
+address_of_a_bool = refl
+
+null_has_no_address : Does (ops.LoadAddr 2) (Int (negsuc 0) ∷ Null ∷ []) (Faults faults.NullUse ∷ [])
+null_has_no_address = refl
+
+address_is_below : Does (ops.LoadAddr 2) (Int (negsuc 0) ∷ Array 0 ∷ []) (Faults faults.Lower ∷ [])
+address_is_below = refl
+
+-- An address is of an item: none stands at the length.
+address_is_beyond : Does (ops.LoadAddr 2) (Int (pos 2) ∷ Array 0 ∷ []) (Faults faults.Upper ∷ [])
+address_is_beyond = refl
+
+address_in_another_type : Does (ops.LoadAddr 1) (Int (pos 0) ∷ Array 0 ∷ []) []
+address_in_another_type = refl
+
+address_in_no_type : Does (ops.LoadAddr 3) (Int (pos 0) ∷ Array 0 ∷ []) []
+address_in_no_type = refl
+
+-- ---- ldind and stind: the value stands above the address
+
+item_is_loaded_through : Does (ops.LoadInd Ints) (Addr 0 1 ∷ []) (on (Int (pos 6) ∷ []) heap)
+item_is_loaded_through = refl
+
+bool_is_loaded_through : Does (ops.LoadInd Bools) (Addr 1 0 ∷ []) (on (Int (pos 1) ∷ []) heap)
+bool_is_loaded_through = refl
+
+load_through_another_type : Does (ops.LoadInd Bools) (Addr 0 1 ∷ []) []
+load_through_another_type = refl
+
+load_through_a_reference : Does (ops.LoadInd Ints) (Array 0 ∷ []) []
+load_through_a_reference = refl
+
+item_is_stored_through : Does (ops.StoreInd Ints) (Int (pos 258) ∷ Addr 0 1 ∷ []) (on [] (ints (pos 5 ∷ pos 258 ∷ []) ∷ bools (pos 1 ∷ []) ∷ []))
+item_is_stored_through = refl
+
+bool_is_stored_through : Does (ops.StoreInd Bools) (Int (pos 258) ∷ Addr 1 0 ∷ []) (on [] (ints (pos 5 ∷ pos 6 ∷ []) ∷ bools (pos 2 ∷ []) ∷ []))
+bool_is_stored_through = refl
+
+store_through_another_type : Does (ops.StoreInd Bools) (Int (pos 0) ∷ Addr 0 0 ∷ []) []
+store_through_another_type = refl
+
+-- Nothing else takes an address: it is no reference and no number.
+address_has_no_length : Does ops.Length (Addr 0 1 ∷ []) []
+address_has_no_length = refl
+
+address_is_no_array : Does (ops.LoadElem Ints) (Int (pos 0) ∷ Addr 0 1 ∷ []) []
+address_is_no_array = refl
+
+address_is_doubled : Does ops.Dup (Addr 0 1 ∷ []) (on (Addr 0 1 ∷ Addr 0 1 ∷ []) heap)
+address_is_doubled = refl
+
+address_is_not_converted : Does ops.ConvI4 (Addr 0 1 ∷ []) []
+address_is_not_converted = refl
 
 -- ---- Assert and Assume: a message stands above the condition
 

@@ -1,19 +1,19 @@
 -- An instruction that finds operands of kinds that it takes does something, and where its frame goes on, the stack
 -- has the kinds that it leaves.
-use Rattle.std.proofs.Common.{◌≡◌, ◌⊎◌, ℕ, zero, suc, ◌+◌, ◌==◌, ℤ, pos, int_lt, int_le, int_eq, unsigned_abs, Bool, true, false, not, List, [], ◌∷◌, ◌++◌, length, slice_get, slice_set, Option, Some, None, option_map, Result, Ok, Err, refl, sym, ap, subst, inl, inr}
+use Rattle.std.proofs.Common.{◌≡◌, ◌⊎◌, ℕ, zero, suc, ◌+◌, ◌==◌, ℤ, pos, int_lt, int_le, int_eq, nat_lt, unsigned_abs, Bool, true, false, not, List, [], ◌∷◌, ◌++◌, length, slice_get, slice_set, get_or, ◌<◌, if◌then◌else◌, Option, Some, None, option_map, Result, Ok, Err, refl, sym, ap, subst, inl, inr}
 use Rattle.std.specs.List.{AllByRecursion}
 use Rattle.std.specs.Option.{option_and_then}
-use Rattle.std.proofs.lemmas.Bool.{and_parts, cond_both}
+use Rattle.std.proofs.lemmas.Bool.{and_parts, cond_both, lt-ltb}
 use Rattle.std.proofs.lemmas.List.{length-set}
-use Rattle.std.proofs.lemmas.Option.{none-some}
+use Rattle.std.proofs.lemmas.Option.{none-some, slice_get-get_or}
 use Rattle.cil_model.specs.Arithmetic.{operated, operated_one, truth, unsigned}
 use Rattle.cil_model.specs.Comparisons.{comparison_of, compares_values, is_true, number_of}
-use Rattle.cil_model.specs.Effects.{Effect, GoesOn, Faults, Assumes, arithmetic, array_length, at_index, below_message, binary, branches, branches_by, changes, comparison, contract_call, converts, duplicates, effects_of, gives, goes_on, item_of, loads, makes, makes_number, new_array, of_place, pops, pushes, stores, stores_arg, stores_local, switches, switches_to, tests_condition, with_args, with_locals, zeros}
-use Rattle.cil_model.specs.Kinds.{behind, behind_arithmetic, behind_call, behind_comparison, behind_condition, behind_conversion, behind_length, behind_load, behind_new_array, behind_number, behind_operator, behind_store, behind_switch, behind_test, compares_kinds, duplicated, is_array_of, is_number, is_reference, is_tested, kind_of, loaded, popped, pushed_kind, pushes_comparison, stored_kind, takes, when}
+use Rattle.cil_model.specs.Effects.{Effect, GoesOn, Faults, Assumes, addresses, arithmetic, array_length, at_index, below_message, binary, branches, branches_by, changes, comparison, contract_call, converts, duplicates, effects_of, gives, goes_on, item_of, loads, loads_through, makes, makes_number, new_array, of_place, pops, pushes, stores, stores_arg, stores_local, stores_through, switches, switches_to, takes_address, tests_condition, with_args, with_item, with_locals, zeros}
+use Rattle.cil_model.specs.Kinds.{behind, behind_address, behind_arithmetic, behind_call, behind_comparison, behind_condition, behind_conversion, behind_length, behind_load, behind_load_through, behind_new_array, behind_number, behind_operator, behind_store, behind_store_through, behind_switch, behind_test, compares_kinds, duplicated, is_address_of, is_array_of, is_number, is_reference, is_tested, kind_of, loaded, popped, pushed_kind, pushes_comparison, stored_kind, takes, when}
 use Rattle.cil_model.specs.Passes.{successors}
 use Rattle.cil_model.specs.Shapes.{shape_of}
 use Rattle.cil_model.specs.UnitCalls.{array_place, unit_call}
-use Rattle.cil_model.specs.Values.{Heap, FitPlaces, FitsPlace, has_array, put, same_place}
+use Rattle.cil_model.specs.Values.{Heap, FitPlaces, FitsPlace, HasItemOf, has_array, put, same_place}
 use Rattle.cil_model.specs.declared.instruction.BinOp.{BinOp}
 use Rattle.cil_model.specs.declared.instruction.CmpOp.{CmpOp}
 use Rattle.cil_model.specs.declared.instruction.Instr.{Instr}
@@ -30,15 +30,15 @@ use Rattle.cil_model.specs.declared.machine.Frame.{Frame}
 use Rattle.cil_model.specs.declared.machine.Value.{Value}
 use Rattle.cil_model.specs.declared.machine.Value.TheVariants as values
 use Rattle.cil_model.specs.declared.place.Kind.{Kind}
-use Rattle.cil_model.specs.declared.place.Kind.TheVariants.{Int, Native, Ints, Bools, Text, NullRef}
+use Rattle.cil_model.specs.declared.place.Kind.TheVariants.{Int, Native, Ints, Bools, Text, NullRef, AddrInts, AddrBools}
 use Rattle.cil_model.specs.declared.place.Place.{Place}
 use Rattle.cil_model.specs.declared.place.Place.TheVariants as places
 use Rattle.cil_model.specs.declared.unit.Unit.{Unit as MethodUnit}
 use Rattle.cil_model.specs.declared.unit_numbers.UnitCall.{UnitCall}
 use Rattle.cil_model.specs.declared.unit_numbers.UnitCall.TheVariants as calls
-use Rattle.cil_model.proofs.HeapsKept.{keeps_before, keeps_others}
+use Rattle.cil_model.proofs.HeapsKept.{item_of_array, item_within, keeps_before, keeps_others}
 use Rattle.cil_model.proofs.KindForms.{HasForm, HaveForms, HaveForms-kept, array_is, form_of_place, put_defined}
-use Rattle.cil_model.proofs.KindValues.{array_found, array_of, compares_defined, item_there, null_or_array, number_is, pushed_defined, tested}
+use Rattle.cil_model.proofs.KindValues.{address_is, array_found, array_of, compares_defined, item_there, null_or_array, number_is, pushed_defined, tested, within_length}
 
 -- ---- what fits
 
@@ -351,6 +351,81 @@ module _ (unit : MethodUnit) (i : Instr) (f : Frame) (heap : Heap) where
   stores_fit place (Int ∷ Int ∷ kind ∷ rest) _ h = absurd (search)
   stores_fit place _ stack h = tt
 
+  -- ---- addresses
+
+  addresses_fit : (place : Place) (kind : Kind) (address : Kind) (rest : List Kind) (n : ℤ) (v : Value) (vs : List Value) → HasForm heap kind v
+      → HaveForms heap rest vs → ((a : ℕ) (k : ℕ) → HasItemOf heap place a k → HasForm heap address (values.Addr a k))
+      → FitBehind next (when (is_array_of place kind) (address ∷ rest)) (addresses place i f heap (values.Int n ∷ v ∷ vs))
+  addresses_fit place kind address rest n values.Null vs form h is = when_fits next (is_array_of place kind) (address ∷ rest) _ (λ e. (tt, tt))
+  addresses_fit place kind address rest n (values.Array a) vs form h is =
+      when_fits next (is_array_of place kind) (address ∷ rest) _
+      (λ e. of_place_fits place kind a (address ∷ rest) _ e form
+      (λ cell found. at_index_fits (address ∷ rest) cell n _
+      (λ above below.
+      let has : HasItemOf heap place a (unsigned_abs n) = (array_of heap place kind a e form, item_of_array heap a (unsigned_abs n) cell found (within_length cell.items n above below)) in
+      on (address ∷ rest) (values.Addr a (unsigned_abs n) ∷ vs) (is a (unsigned_abs n) has, h))))
+  addresses_fit place kind address rest n v vs form h is =
+      when_fits next (is_array_of place kind) (address ∷ rest) _
+      (λ e. absurd (null_or_array heap kind v (and_parts (is_reference kind) (takes place kind) e).0 form))
+
+  takes_fit : (place : Option Place) (kinds : List Kind) (stack : List Value) → IsOfArrays place → HaveForms heap kinds stack
+      → FitBehind next (behind_address place kinds) (takes_address place i f heap stack)
+  takes_fit (Some places.Ints) (Int ∷ kind ∷ rest) (values.Int n ∷ v ∷ vs) arrays h =
+      addresses_fit places.Ints kind AddrInts rest n v vs h.1.0 h.1.1 (λ a k has. has)
+  takes_fit (Some places.Bools) (Int ∷ kind ∷ rest) (values.Int n ∷ v ∷ vs) arrays h =
+      addresses_fit places.Bools kind AddrBools rest n v vs h.1.0 h.1.1 (λ a k has. has)
+  takes_fit (Some places.Void) kinds stack arrays h = absurd arrays
+  takes_fit (Some places.Bool) kinds stack arrays h = absurd arrays
+  takes_fit (Some places.Int) kinds stack arrays h = absurd arrays
+  takes_fit (Some place) (Int ∷ kind ∷ rest) _ arrays h = absurd (search)
+  takes_fit (Some place) _ stack arrays h = tt
+  takes_fit None kinds stack arrays h = tt
+
+  takes_address_fits : (number : ℕ) (kinds : List Kind) (stack : List Value) → HaveForms heap kinds stack
+      → FitBehind next (behind_address (array_place number) kinds) (takes_address (array_place number) i f heap stack)
+  takes_address_fits number kinds stack h = takes_fit (array_place number) kinds stack (array_place_is number) h
+
+  -- What is done at an address.
+  at_address_fits : (place : Place) (a n : ℕ) (rest : List Kind) (done : ArrayCell → List Effect) → HasItemOf heap place a n
+      → ((cell : ArrayCell) → slice_get heap a ≡ Some cell → n < length cell.items → AllFit next rest (done cell))
+      → AllFit next rest (of_place place (slice_get heap a) done)
+  at_address_fits place a n rest done has fit =
+      let (cell, found, same) = array_is heap place a has.0 in
+      subst (λ (o : Option ArrayCell). AllFit next rest (of_place place o done)) (sym found) (rw same (fit cell found (item_within heap a n cell found has.1)))
+
+  loads_through_fit : (place : Place) (kinds : List Kind) (stack : List Value) → HaveForms heap kinds stack
+      → FitBehind next (behind_load_through place kinds) (loads_through place i f heap stack)
+  loads_through_fit place (kind ∷ rest) (v ∷ vs) h =
+      when_fits next (is_address_of place kind) (Int ∷ rest) _
+      (λ e. let (a, n, is, has) = address_is heap place kind v e h.0 in
+      subst (λ (w : Value). AllFit next (Int ∷ rest) (loads_through place i f heap (w ∷ vs))) (sym is)
+      (at_address_fits place a n (Int ∷ rest) (λ cell. pushes i f heap vs (option_map values.Int (slice_get cell.items n))) has
+      (λ cell found within.
+      subst (λ (o : Option ℤ). AllFit next (Int ∷ rest) (pushes i f heap vs (option_map values.Int o))) (sym (slice_get-get_or cell.items n (pos 0) within))
+      (on (Int ∷ rest) (values.Int (get_or cell.items n (pos 0)) ∷ vs) (tt, h.1)))))
+  loads_through_fit place (kind ∷ rest) [] h = absurd h
+  loads_through_fit place [] stack h = tt
+
+  stored_through_fit : (place : Place) (rest : List Kind) (v : ℤ) (a n : ℕ) (vs : List Value) (cell : ArrayCell) → HaveForms heap rest vs
+      → slice_get heap a ≡ Some cell
+      → n < length cell.items
+      → AllFit next rest (if nat_lt n (length cell.items) then goes_on i f (with_item heap a cell n (item_of place v)) vs else [])
+  stored_through_fit place rest v a n vs cell h found within =
+      let items = slice_set cell.items n (item_of place v) in
+      let kept = keeps_others heap a cell (record cell { items = items }) found refl (length-set cell.items n (item_of place v)) in
+      rw (lt-ltb n (length cell.items) within) ((inl refl, HaveForms-kept heap (slice_set heap a (record cell { items = items })) kept rest vs h), tt)
+
+  stores_through_fit : (place : Place) (kinds : List Kind) (stack : List Value) → HaveForms heap kinds stack
+      → FitBehind next (behind_store_through place kinds) (stores_through place i f heap stack)
+  stores_through_fit place (Int ∷ kind ∷ rest) (values.Int v ∷ w ∷ vs) h =
+      when_fits next (is_address_of place kind) rest _
+      (λ e. let (a, n, is, has) = address_is heap place kind w e h.1.0 in
+      subst (λ (u : Value). AllFit next rest (stores_through place i f heap (values.Int v ∷ u ∷ vs))) (sym is)
+      (at_address_fits place a n rest (λ cell. if nat_lt n (length cell.items) then goes_on i f (with_item heap a cell n (item_of place v)) vs else []) has
+      (λ cell found within. stored_through_fit place rest v a n vs cell h.1.1 found within)))
+  stores_through_fit place (Int ∷ kind ∷ rest) _ h = absurd (search)
+  stores_through_fit place _ stack h = tt
+
   -- ---- Assert and Assume
 
   tests_fit : (otherwise : Effect) (rest : List Kind) (n : ℤ) (vs : List Value) → EffectFits next rest otherwise → HaveForms heap rest vs
@@ -402,3 +477,6 @@ module _ (unit : MethodUnit) (i : Instr) (f : Frame) (heap : Heap) where
   effects_fit ops.Length kinds own args locals h = array_length_fits kinds f.stack h
   effects_fit (ops.LoadElem place) kinds own args locals h = loads_fit place kinds f.stack h
   effects_fit (ops.StoreElem place) kinds own args locals h = stores_fit place kinds f.stack h
+  effects_fit (ops.LoadAddr number) kinds own args locals h = takes_address_fits number kinds f.stack h
+  effects_fit (ops.LoadInd place) kinds own args locals h = loads_through_fit place kinds f.stack h
+  effects_fit (ops.StoreInd place) kinds own args locals h = stores_through_fit place kinds f.stack h

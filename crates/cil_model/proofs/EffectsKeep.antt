@@ -1,5 +1,5 @@
 -- What an instruction does to its own frame keeps values values, and arrays what they are.
-use Rattle.std.proofs.Common.{◌≡◌, ℕ, zero, suc, ◌+◌, ◌<◌, ◌==◌, ℤ, pos, int_lt, int_le, int_eq, unsigned_abs, FitsSigned, Bool, true, false, not, List, [], ◌∷◌, ◌++◌, length, replicate, slice_get, slice_set, Option, Some, None, option_map, Result, Ok, Err, IfOk, refl, sym, subst, w32, arith, inl, inr, length-append}
+use Rattle.std.proofs.Common.{◌≡◌, ℕ, zero, suc, ◌+◌, ◌<◌, ◌==◌, ℤ, pos, int_lt, int_le, int_eq, nat_lt, if◌then◌else◌, unsigned_abs, FitsSigned, Bool, true, false, not, List, [], ◌∷◌, ◌++◌, length, replicate, slice_get, slice_set, Option, Some, None, option_map, Result, Ok, Err, IfOk, refl, sym, subst, w32, arith, inl, inr, length-append}
 use Rattle.std.specs.List.{AllByRecursion}
 use Rattle.std.specs.Option.{option_and_then}
 use Rattle.std.proofs.lemmas.Bool.{cond_both, false≢true}
@@ -8,7 +8,7 @@ use Rattle.std.proofs.lemmas.List.{length-replicate, length-set}
 use Rattle.std.proofs.lemmas.Option.{none-some, same_Some}
 use Rattle.cil_model.specs.Arithmetic.{operated, operated_one, truth, unsigned}
 use Rattle.cil_model.specs.Comparisons.{comparison_of, comparison_value, compares_values, is_true, number_of, pushed_comparison}
-use Rattle.cil_model.specs.Effects.{Effect, GoesOn, Faults, Assumes, HasEffect, arithmetic, array_length, at_index, below_message, binary, branches, branches_by, changes, comparison, contract_call, converts, duplicates, effects, effects_of, gives, goes_to, item_of, item_value, loads, makes, makes_number, new_array, of_place, pops, pushes, stored, stores, stores_arg, stores_local, switches, switches_to, tests_condition, with_args, with_item, with_locals, zeros}
+use Rattle.cil_model.specs.Effects.{Effect, GoesOn, Faults, Assumes, HasEffect, addresses, arithmetic, array_length, at_index, below_message, binary, branches, branches_by, changes, comparison, contract_call, converts, duplicates, effects, effects_of, gives, goes_to, item_of, item_value, loads, loads_through, makes, makes_number, new_array, of_place, pops, pushes, stored, stores, stores_arg, stores_local, stores_through, switches, switches_to, takes_address, tests_condition, with_args, with_item, with_locals, zeros}
 use Rattle.cil_model.specs.FitKinds.{OperandFits}
 use Rattle.cil_model.specs.UnitCalls.{array_place, unit_call}
 use Rattle.cil_model.specs.Values.{Heap, FitItems, FitPlaces, IsArray, IsByte, IsHeap, IsValue, KeepsForms, put, same_place}
@@ -26,14 +26,15 @@ use Rattle.cil_model.specs.declared.machine.FaultKind.{FaultKind}
 use Rattle.cil_model.specs.declared.machine.FaultKind.TheVariants as faults
 use Rattle.cil_model.specs.declared.machine.Frame.{Frame}
 use Rattle.cil_model.specs.declared.machine.Value.{Value}
-use Rattle.cil_model.specs.declared.machine.Value.TheVariants.{Int, Native, Null, Array, Text}
+use Rattle.cil_model.specs.declared.machine.Value.TheVariants.{Int, Native, Null, Array, Addr, Text}
 use Rattle.cil_model.specs.declared.place.Place.{Place}
 use Rattle.cil_model.specs.declared.place.Place.TheVariants as places
 use Rattle.cil_model.specs.declared.unit.Unit.{Unit as MethodUnit}
 use Rattle.cil_model.specs.declared.unit_numbers.UnitCall.{UnitCall}
 use Rattle.cil_model.specs.declared.unit_numbers.UnitCall.TheVariants as calls
 use Rattle.cil_model.proofs.ArithmeticFits.{low_bits_are_byte, operated_fits, operated_one_fits, truth_fits}
-use Rattle.cil_model.proofs.HeapsKept.{FitPlaces-kept, AreValues-kept, array_of_heap, heap_and_one, heap_with, keeps_before, keeps_itself, keeps_others, put_fits, variable_is_value, variables_with}
+use Rattle.cil_model.proofs.HeapsKept.{FitPlaces-kept, AreValues-kept, array_of_heap, heap_and_one, heap_with, item_of_array, keeps_before, keeps_itself, keeps_others, put_fits, variable_is_value, variables_with}
+use Rattle.cil_model.proofs.KindValues.{within_length}
 use Rattle.cil_model.proofs.Options.{and_then_from, map_from}
 
 -- ---- arrays
@@ -192,9 +193,10 @@ module _ (unit : MethodUnit) (i : Instr) (f : Frame) (heap : Heap) (stack : List
       cond_both (int_eq n (pos 0)) _ _ Keeps (λ e. (other, tt)) (λ e. goes_keeps (i.at + i.size) rest (λ h. (values (Int n ∷ rest) refl h).1))
   tests_keeps otherwise _ other values = tt
 
-  at_index_keeps : (cell : ArrayCell) (n : ℤ) (done : List Effect) → Keeps done → Keeps (at_index cell n done)
+  at_index_keeps : (cell : ArrayCell) (n : ℤ) (done : List Effect) → (unsigned_abs n < length cell.items → Keeps done) → Keeps (at_index cell n done)
   at_index_keeps cell n done keeps =
-      cond_both (int_lt n (pos 0)) _ _ Keeps (λ e. (tt, tt)) (λ e. cond_both (int_le (pos (length cell.items)) n) _ _ Keeps (λ f. (tt, tt)) (λ f. keeps))
+      cond_both (int_lt n (pos 0)) _ _ Keeps (λ above. (tt, tt))
+      (λ above. cond_both (int_le (pos (length cell.items)) n) _ _ Keeps (λ below. (tt, tt)) (λ below. keeps (within_length cell.items n above below)))
 
   of_place_keeps : (place : Place) (found : Option ArrayCell) (done : ArrayCell → List Effect)
       → ((cell : ArrayCell) → found ≡ Some cell → cell.place ≡ place → Keeps (done cell)) → Keeps (of_place place found done)
@@ -335,14 +337,21 @@ module _ (unit : MethodUnit) (i : Instr) (f : Frame) (heap : Heap) where
       subst (IsValue heap) (sym is) (array_of_heap heap a cell h.heap_is there).1)
   array_length_keeps _ = tt
 
+  -- An item of an array is pushed.
+  item_keeps : (stack rest : List Value) (a n : ℕ) (cell : ArrayCell) → slice_get heap a ≡ Some cell
+      → (Holds unit heap f.args f.locals stack → AllByRecursion (IsValue heap) rest)
+      → Keep stack (pushes i f heap rest (option_map Int (slice_get cell.items n)))
+  item_keeps stack rest a n cell there values =
+      pushes_keeps unit i f heap stack rest (option_map Int (slice_get cell.items n)) values
+      (λ v e h. let (item, found, is) = map_from Int (slice_get cell.items n) v e in
+      subst (IsValue heap) (sym is) (item_fits cell.place cell.items n item (array_of_heap heap a cell h.heap_is there).0 found))
+
   loads_keeps : (place : Place) (stack : List Value) → Keep stack (loads place i f heap stack)
   loads_keeps place (Int n ∷ Null ∷ rest) = (tt, tt)
   loads_keeps place (Int n ∷ Array a ∷ rest) =
       of_place_keeps unit i f heap (Int n ∷ Array a ∷ rest) place (slice_get heap a) (λ cell. at_index cell n (pushes i f heap rest (item_value cell n)))
       (λ cell there same. at_index_keeps unit i f heap (Int n ∷ Array a ∷ rest) cell n (pushes i f heap rest (item_value cell n))
-      (pushes_keeps unit i f heap (Int n ∷ Array a ∷ rest) rest (item_value cell n) (λ h. h.values.1.1)
-      (λ v e h. let (item, found, is) = map_from Int (slice_get cell.items (unsigned_abs n)) v e in
-      subst (IsValue heap) (sym is) (item_fits cell.place cell.items (unsigned_abs n) item (array_of_heap heap a cell h.heap_is there).0 found))))
+      (λ within. item_keeps (Int n ∷ Array a ∷ rest) rest a (unsigned_abs n) cell there (λ h. h.values.1.1)))
   loads_keeps place _ = tt
 
   -- The array with one item replaced.
@@ -356,31 +365,69 @@ module _ (unit : MethodUnit) (i : Instr) (f : Frame) (heap : Heap) where
         subst (λ (m : ℕ). m < 2147483648) (sym long) array.1,
       )
 
-  stores_keeps : (place : Place) (stack : List Value) → Keep stack (stores place i f heap stack)
-  stores_keeps place (Int v ∷ Int n ∷ Null ∷ rest) = (tt, tt)
-  stores_keeps place (Int v ∷ Int n ∷ Array a ∷ rest) =
-      of_place_keeps unit i f heap (Int v ∷ Int n ∷ Array a ∷ rest) place (slice_get heap a)
-      (λ cell. at_index cell n (goes_to (i.at + i.size) f (with_item heap a cell (unsigned_abs n) (item_of place v)) rest))
-      (λ cell there same.
-      let new = record cell { items = slice_set cell.items (unsigned_abs n) (item_of place v) } in
+  -- A number is stored as an item of an array.
+  stored_keeps : (place : Place) (v : ℤ) (below rest : List Value) (a n : ℕ) (cell : ArrayCell) → slice_get heap a ≡ Some cell → cell.place ≡ place
+      → (Holds unit heap f.args f.locals (Int v ∷ below) → AllByRecursion (IsValue heap) rest)
+      → Keep (Int v ∷ below) (goes_to (i.at + i.size) f (with_item heap a cell n (item_of place v)) rest)
+  stored_keeps place v below rest a n cell there same values =
+      let new = record cell { items = slice_set cell.items n (item_of place v) } in
       let after = slice_set heap a new in
-      let kept = keeps_others heap a cell new there refl (length-set cell.items (unsigned_abs n) (item_of place v)) in
-      at_index_keeps unit i f heap (Int v ∷ Int n ∷ Array a ∷ rest) cell n (goes_to (i.at + i.size) f after rest) (
+      let kept = keeps_others heap a cell new there refl (length-set cell.items n (item_of place v)) in (
         record {
           unit_is = refl;
           entry_args_are = refl;
           entry_heap_is = refl;
           kept = kept;
           holds = λ h. record {
-            heap_is = heap_with heap a new h.heap_is (item_stored a cell place (unsigned_abs n) v there same h.heap_is h.values.0);
+            heap_is = heap_with heap a new h.heap_is (item_stored a cell place n v there same h.heap_is h.values.0);
             args_fit = FitPlaces-kept heap after kept unit.args f.args h.args_fit;
             locals_fit = FitPlaces-kept heap after kept unit.locals f.locals h.locals_fit;
-            values = AreValues-kept heap after kept rest h.values.1.1.1;
+            values = AreValues-kept heap after kept rest (values h);
           };
         },
         tt,
-      ))
+      )
+
+  stores_keeps : (place : Place) (stack : List Value) → Keep stack (stores place i f heap stack)
+  stores_keeps place (Int v ∷ Int n ∷ Null ∷ rest) = (tt, tt)
+  stores_keeps place (Int v ∷ Int n ∷ Array a ∷ rest) =
+      of_place_keeps unit i f heap (Int v ∷ Int n ∷ Array a ∷ rest) place (slice_get heap a)
+      (λ cell. at_index cell n (goes_to (i.at + i.size) f (with_item heap a cell (unsigned_abs n) (item_of place v)) rest))
+      (λ cell there same. at_index_keeps unit i f heap (Int v ∷ Int n ∷ Array a ∷ rest) cell n
+      (goes_to (i.at + i.size) f (with_item heap a cell (unsigned_abs n) (item_of place v)) rest)
+      (λ within. stored_keeps place v (Int n ∷ Array a ∷ rest) rest a (unsigned_abs n) cell there same (λ h. h.values.1.1.1)))
   stores_keeps place _ = tt
+
+  -- ---- addresses
+
+  addresses_keep : (place : Place) (stack : List Value) → Keep stack (addresses place i f heap stack)
+  addresses_keep place (Int n ∷ Null ∷ rest) = (tt, tt)
+  addresses_keep place (Int n ∷ Array a ∷ rest) =
+      of_place_keeps unit i f heap (Int n ∷ Array a ∷ rest) place (slice_get heap a)
+      (λ cell. at_index cell n (goes_to (i.at + i.size) f heap (Addr a (unsigned_abs n) ∷ rest)))
+      (λ cell there same. at_index_keeps unit i f heap (Int n ∷ Array a ∷ rest) cell n (goes_to (i.at + i.size) f heap (Addr a (unsigned_abs n) ∷ rest))
+      (λ within. goes_keeps unit i f heap (Int n ∷ Array a ∷ rest) (i.at + i.size) (Addr a (unsigned_abs n) ∷ rest)
+      (λ h. (item_of_array heap a (unsigned_abs n) cell there within, h.values.1.1))))
+  addresses_keep place _ = tt
+
+  takes_address_keeps : (place : Option Place) (stack : List Value) → Keep stack (takes_address place i f heap stack)
+  takes_address_keeps None stack = tt
+  takes_address_keeps (Some place) stack = addresses_keep place stack
+
+  loads_through_keeps : (place : Place) (stack : List Value) → Keep stack (loads_through place i f heap stack)
+  loads_through_keeps place (Addr a n ∷ rest) =
+      of_place_keeps unit i f heap (Addr a n ∷ rest) place (slice_get heap a) (λ cell. pushes i f heap rest (option_map Int (slice_get cell.items n)))
+      (λ cell there same. item_keeps (Addr a n ∷ rest) rest a n cell there (λ h. h.values.1))
+  loads_through_keeps place _ = tt
+
+  stores_through_keeps : (place : Place) (stack : List Value) → Keep stack (stores_through place i f heap stack)
+  stores_through_keeps place (Int v ∷ Addr a n ∷ rest) =
+      let stack = Int v ∷ Addr a n ∷ rest in
+      of_place_keeps unit i f heap stack place (slice_get heap a)
+      (λ cell. if nat_lt n (length cell.items) then goes_to (i.at + i.size) f (with_item heap a cell n (item_of place v)) rest else [])
+      (λ cell there same. cond_both (nat_lt n (length cell.items)) _ _ (Keep stack)
+      (λ within. stored_keeps place v (Addr a n ∷ rest) rest a n cell there same (λ h. h.values.1.1)) (λ beyond. tt))
+  stores_through_keeps place _ = tt
 
   -- ---- Assert and Assume
 
@@ -423,6 +470,9 @@ module _ (unit : MethodUnit) (i : Instr) (f : Frame) (heap : Heap) where
   effects_of_keep ops.Length fits = array_length_keeps f.stack
   effects_of_keep (ops.LoadElem place) fits = loads_keeps place f.stack
   effects_of_keep (ops.StoreElem place) fits = stores_keeps place f.stack
+  effects_of_keep (ops.LoadAddr number) fits = takes_address_keeps (array_place number) f.stack
+  effects_of_keep (ops.LoadInd place) fits = loads_through_keeps place f.stack
+  effects_of_keep (ops.StoreInd place) fits = stores_through_keeps place f.stack
 
   has_keeps : (es : List Effect) (effect : Effect) → Keep f.stack es → HasEffect es effect → EffectKeeps unit f heap f.stack effect
   has_keeps [] effect keep has = absurd has

@@ -5,7 +5,7 @@ use Rattle.std.proofs.lemmas.List.{append_cancel_left}
 use Rattle.byteorder.specs.Endian.{little_bytes, little_number}
 use Rattle.cc_base.specs.LittleEndian.{IsBytes}
 use Rattle.cc_base.proofs.ByteLemmas.{IsBytes-nil, IsBytes-cons, IsBytes-append, IsBytes-little_bytes, number_back}
-use Rattle.cil_model.specs.Opcodes.{Form, short_form, long_form, operator_of, target}
+use Rattle.cil_model.specs.Opcodes.{Form, address_form, short_form, long_form, operator_of, target}
 use Rattle.cil_model.specs.Spells.{SpellsForm, SpellsShort, SpellsLong, SpellsSwitch, Spells, offset_bytes}
 use Rattle.cil_model.specs.declared.instruction.Instr.{Instr}
 use Rattle.cil_model.specs.declared.instruction.Op.TheVariants.{Switch}
@@ -118,7 +118,7 @@ unfolding short_form operator_of
 no_long b i bytes e form = rw e at form
 
 pub no_switch : (b : ℕ) (i : Instr) (bytes : List ℕ) → b ≡ 0x45 → SpellsForm (short_form b) (b ∷ []) i bytes → ⊥
-unfolding short_form operator_of
+unfolding short_form address_form
 no_switch b i bytes e form = rw e at form
 
 module _ (i j : Instr) (bytes more : List ℕ) (at : i.at ≡ j.at) (spells : Spells i bytes) (spells' : Spells j (bytes ++ more)) where

@@ -1,10 +1,11 @@
 -- Heaps whose arrays keep their types and lengths, and what stays true over them.
-use Rattle.std.proofs.Common.{◌≡◌, ℕ, zero, suc, ◌<◌, ◌≤◌, true, List, [], ◌∷◌, ◌++◌, length, slice_get, slice_set, Option, Some, None, if◌then◌else◌, refl, sym, ap, subst, ◌∙◌, arith}
+use Rattle.std.proofs.Common.{◌≡◌, ℕ, zero, suc, ◌<◌, ◌≤◌, nat_lt, true, false, List, [], ◌∷◌, ◌++◌, length, slice_get, slice_set, Option, Some, None, if◌then◌else◌, refl, sym, ap, subst, ◌∙◌, arith}
 use Rattle.std.specs.List.{AllByRecursion}
-use Rattle.std.proofs.lemmas.Bool.{false≢true}
+use Rattle.std.specs.Option.{option_map_or}
+use Rattle.std.proofs.lemmas.Bool.{false≢true, lt-ltb, ltb-true}
 use Rattle.std.proofs.lemmas.Int.{ints}
 use Rattle.std.proofs.lemmas.Option.{cond_some, none-some, same_Some}
-use Rattle.cil_model.specs.Values.{Heap, FitPlaces, FitsPlace, IsArray, IsHeap, IsValue, KeepsForms, has_array, put, put_all, same_place, with_first}
+use Rattle.cil_model.specs.Values.{Heap, FitPlaces, FitsPlace, HasItemOf, IsArray, IsHeap, IsValue, KeepsForms, has_array, has_item, put, put_all, same_place, with_first}
 use Rattle.cil_model.specs.declared.machine.ArrayCell.{ArrayCell}
 use Rattle.cil_model.specs.declared.machine.Value.{Value}
 use Rattle.cil_model.specs.declared.machine.Value.TheVariants as values
@@ -59,6 +60,26 @@ has_array-kept (cell ∷ old) [] place i kept has = absurd kept
 has_array-kept (cell ∷ old) (now ∷ new) place zero kept has = ap (λ (p : Place). same_place p place) kept.0 ∙ has
 has_array-kept (cell ∷ old) (now ∷ new) place (suc i) kept has = has_array-kept old new place i kept.2 has
 
+pub has_item-kept : (old new : Heap) (a n : ℕ) → KeepsForms old new → has_item old a n ≡ true → has_item new a n ≡ true
+has_item-kept [] new a n kept has = absurd (false≢true has)
+has_item-kept (cell ∷ old) [] a n kept has = absurd kept
+has_item-kept (cell ∷ old) (now ∷ new) zero n kept has = ap (nat_lt n) kept.1 ∙ has
+has_item-kept (cell ∷ old) (now ∷ new) (suc a) n kept has = has_item-kept old new a n kept.2 has
+
+-- An address stays one of an item of its array's type.
+pub HasItemOf-kept : (old new : Heap) (place : Place) (a n : ℕ) → KeepsForms old new → HasItemOf old place a n → HasItemOf new place a n
+HasItemOf-kept old new place a n kept has = (has_array-kept old new place a kept has.0, has_item-kept old new a n kept has.1)
+
+-- The array there has the items of the indexes below its length.
+pub item_of_array : (heap : Heap) (a n : ℕ) (cell : ArrayCell) → slice_get heap a ≡ Some cell → n < length cell.items → has_item heap a n ≡ true
+item_of_array heap a n cell found within =
+    subst (λ (o : Option ArrayCell). option_map_or (λ (c : ArrayCell). nat_lt n (length c.items)) o false ≡ true) (sym found) (lt-ltb n (length cell.items) within)
+
+-- It has no others.
+pub item_within : (heap : Heap) (a n : ℕ) (cell : ArrayCell) → slice_get heap a ≡ Some cell → has_item heap a n ≡ true → n < length cell.items
+item_within heap a n cell found has =
+    ltb-true n (length cell.items) (subst (λ (o : Option ArrayCell). option_map_or (λ (c : ArrayCell). nat_lt n (length c.items)) o false ≡ true) found has)
+
 has_array-below : (heap : Heap) (place : Place) (i : ℕ) → has_array heap place i ≡ true → i < length heap
 has_array-below [] place i has = absurd (false≢true has)
 has_array-below (cell ∷ cells) place zero has = omega arith
@@ -87,6 +108,7 @@ module _ (old new : Heap) (kept : KeepsForms old new) where
 
   pub IsValue-kept : (v : Value) → IsValue old v → IsValue new v
   IsValue-kept (values.Array i) is = let more = length-kept old new kept in omega arith
+  IsValue-kept (values.Addr a n) is = has_item-kept old new a n kept is
   IsValue-kept (values.Int n) is = is
   IsValue-kept (values.Native n) is = is
   IsValue-kept values.Null is = tt

@@ -8,7 +8,7 @@ use Rattle.cil_model.specs.Calls.{args_of}
 use Rattle.cil_model.specs.FitKinds.{FitKinds, FitsKind}
 use Rattle.cil_model.specs.Kinds.{kind_of, pushed_kind, take_each, takes}
 use Rattle.cil_model.specs.Passes.{merged, merged_kind}
-use Rattle.cil_model.specs.Values.{Heap, FitsPlace, IsValue, KeepsForms, has_array, put, put_all, same_place, with_first}
+use Rattle.cil_model.specs.Values.{Heap, FitsPlace, HasItemOf, IsValue, KeepsForms, has_array, put, put_all, same_place, with_first}
 use Rattle.cil_model.specs.declared.machine.ArrayCell.{ArrayCell}
 use Rattle.cil_model.specs.declared.machine.Value.{Value}
 use Rattle.cil_model.specs.declared.machine.Value.TheVariants as values
@@ -17,7 +17,7 @@ use Rattle.cil_model.specs.declared.place.Kind.TheVariants as kinds
 use Rattle.cil_model.specs.declared.place.Place.{Place}
 use Rattle.cil_model.specs.declared.place.Place.TheVariants as places
 use Rattle.std.specs.List.{AllByRecursion}
-use Rattle.cil_model.proofs.HeapsKept.{has_array-kept}
+use Rattle.cil_model.proofs.HeapsKept.{HasItemOf-kept, has_array-kept}
 use Rattle.cil_model.proofs.KindsGrow.{parts}
 
 abbrev pub HasForm : Heap → Kind → Value → Type 0
@@ -29,6 +29,8 @@ HasForm heap kinds.Bools values.Null = Unit {0}
 HasForm heap kinds.Bools (values.Array i) = has_array heap places.Bools i ≡ true
 HasForm heap kinds.NullRef values.Null = Unit {0}
 HasForm heap kinds.Text values.Text = Unit {0}
+HasForm heap kinds.AddrInts (values.Addr a n) = HasItemOf heap places.Ints a n
+HasForm heap kinds.AddrBools (values.Addr a n) = HasItemOf heap places.Bools a n
 HasForm heap _ _ = ⊥
 
 abbrev pub HaveForms : Heap → List Kind → List Value → Type 0
@@ -47,6 +49,8 @@ form_of heap kinds.Bools values.Null fits = tt
 form_of heap kinds.Bools (values.Array i) fits = fits
 form_of heap kinds.NullRef values.Null fits = tt
 form_of heap kinds.Text values.Text fits = tt
+form_of heap kinds.AddrInts (values.Addr a n) fits = fits
+form_of heap kinds.AddrBools (values.Addr a n) fits = fits
 form_of heap _ _ fits = absurd fits
 
 pub forms_of : (heap : Heap) (kinds : List Kind) (vs : List Value) → FitKinds heap kinds vs → HaveForms heap kinds vs
@@ -64,6 +68,8 @@ fits_of heap kinds.Bools values.Null form is = tt
 fits_of heap kinds.Bools (values.Array i) form is = form
 fits_of heap kinds.NullRef values.Null form is = tt
 fits_of heap kinds.Text values.Text form is = tt
+fits_of heap kinds.AddrInts (values.Addr a n) form is = form
+fits_of heap kinds.AddrBools (values.Addr a n) form is = form
 fits_of heap _ _ form is = absurd form
 
 pub fit_of : (heap : Heap) (kinds : List Kind) (vs : List Value) → HaveForms heap kinds vs → AllByRecursion (IsValue heap) vs → FitKinds heap kinds vs
@@ -84,6 +90,8 @@ module _ (old new : Heap) (kept : KeepsForms old new) where
   HasForm-kept kinds.Bools (values.Array i) form = has_array-kept old new places.Bools i kept form
   HasForm-kept kinds.NullRef values.Null form = tt
   HasForm-kept kinds.Text values.Text form = tt
+  HasForm-kept kinds.AddrInts (values.Addr a n) form = HasItemOf-kept old new places.Ints a n kept form
+  HasForm-kept kinds.AddrBools (values.Addr a n) form = HasItemOf-kept old new places.Bools a n kept form
   HasForm-kept _ _ form = absurd form
 
   pub HaveForms-kept : (kinds : List Kind) (vs : List Value) → HaveForms old kinds vs → HaveForms new kinds vs
@@ -105,6 +113,8 @@ module _ (heap : Heap) where
   HasForm-merged kinds.Bools kinds.Bools c v e form = subst (λ (k : Kind). HasForm heap k v) (same_Some kinds.Bools c e) form
   HasForm-merged kinds.NullRef kinds.NullRef c v e form = subst (λ (k : Kind). HasForm heap k v) (same_Some kinds.NullRef c e) form
   HasForm-merged kinds.Text kinds.Text c v e form = subst (λ (k : Kind). HasForm heap k v) (same_Some kinds.Text c e) form
+  HasForm-merged kinds.AddrInts kinds.AddrInts c v e form = subst (λ (k : Kind). HasForm heap k v) (same_Some kinds.AddrInts c e) form
+  HasForm-merged kinds.AddrBools kinds.AddrBools c v e form = subst (λ (k : Kind). HasForm heap k v) (same_Some kinds.AddrBools c e) form
   HasForm-merged kinds.NullRef kinds.Ints c v e form = subst (λ (k : Kind). HasForm heap k v) (same_Some kinds.Ints c e) form
   HasForm-merged kinds.NullRef kinds.Bools c v e form = subst (λ (k : Kind). HasForm heap k v) (same_Some kinds.Bools c e) form
   HasForm-merged kinds.Ints kinds.NullRef c v e form =

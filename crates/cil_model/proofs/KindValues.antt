@@ -5,8 +5,8 @@ use Rattle.std.proofs.lemmas.Int.{ints}
 use Rattle.std.proofs.lemmas.Option.{none-some, slice_get-get_or}
 use Rattle.cil_model.specs.Arithmetic.{compares}
 use Rattle.cil_model.specs.Comparisons.{compares_references, compares_values, is_true, number_of, pushed_comparison, reference_of}
-use Rattle.cil_model.specs.Kinds.{are_comparable, compares_kinds, is_array_of, is_equality, is_number, is_reference, is_tested, pushes_comparison, takes}
-use Rattle.cil_model.specs.Values.{Heap, has_array}
+use Rattle.cil_model.specs.Kinds.{are_comparable, compares_kinds, is_address_of, is_array_of, is_equality, is_number, is_reference, is_tested, pushes_comparison, takes}
+use Rattle.cil_model.specs.Values.{Heap, HasItemOf, has_array}
 use Rattle.cil_model.specs.declared.instruction.CmpOp.{CmpOp}
 use Rattle.cil_model.specs.declared.instruction.CmpOp.TheVariants as comparisons
 use Rattle.cil_model.specs.declared.machine.ArrayCell.{ArrayCell}
@@ -41,6 +41,8 @@ module _ (heap : Heap) where
   reference_is kinds.Int (values.Int n) e form = absurd (false≢true e)
   reference_is kinds.Native (values.Native n) e form = absurd (false≢true e)
   reference_is kinds.Text values.Text e form = absurd (false≢true e)
+  reference_is kinds.AddrInts (values.Addr i n) e form = absurd (false≢true e)
+  reference_is kinds.AddrBools (values.Addr i n) e form = absurd (false≢true e)
   reference_is _ _ e form = absurd form
 
   -- A value of a kind of references is null or an array.
@@ -63,6 +65,8 @@ module _ (heap : Heap) where
   comparable_references kinds.Int kinds.NullRef e = absurd (false≢true e)
   comparable_references kinds.Native kinds.NullRef e = absurd (false≢true e)
   comparable_references kinds.Text kinds.NullRef e = absurd (false≢true e)
+  comparable_references kinds.AddrInts kinds.NullRef e = absurd (false≢true e)
+  comparable_references kinds.AddrBools kinds.NullRef e = absurd (false≢true e)
   comparable_references _ _ e = absurd (false≢true e)
 
   references_compared : (op : CmpOp) (r q : Option ℕ) → is_equality op ≡ true → (holds : Bool) × (compares_references op r q ≡ Some holds)
@@ -138,6 +142,9 @@ module _ (heap : Heap) where
   tested kind (values.Array i) e form = (_, refl)
   tested kinds.Text values.Text e form = absurd (false≢true e)
   tested _ values.Text e form = absurd form
+  tested kinds.AddrInts (values.Addr a n) e form = absurd (false≢true e)
+  tested kinds.AddrBools (values.Addr a n) e form = absurd (false≢true e)
+  tested _ (values.Addr a n) e form = absurd form
 
   -- ---- arrays
 
@@ -159,8 +166,20 @@ module _ (heap : Heap) where
       → has_array heap place a ≡ true
   array_of place kind a e form = array_taken place kind a (and_parts (is_reference kind) (takes place kind) e).1 form
 
--- An index within the length has an item.
+  -- ---- addresses
+
+  pub address_is : (place : Place) (kind : Kind) (v : Value) → is_address_of place kind ≡ true → HasForm heap kind v
+      → (a : ℕ) × (n : ℕ) × (v ≡ values.Addr a n) × HasItemOf heap place a n
+  address_is places.Ints kinds.AddrInts (values.Addr a n) e form = (a, n, refl, form)
+  address_is places.Bools kinds.AddrBools (values.Addr a n) e form = (a, n, refl, form)
+  address_is place kind v e form = absurd (first_of (search, cc))
+
+-- An index that is no fault is within the length.
+pub within_length : (items : List ℤ) (n : ℤ) → int_lt n (pos 0) ≡ false → int_le (pos (length items)) n ≡ false → unsigned_abs n < length items
+within_length items n above below = omega (arith, ints, above, below)
+
+-- There is an item there.
 pub item_there : (items : List ℤ) (n : ℤ) → int_lt n (pos 0) ≡ false → int_le (pos (length items)) n ≡ false
     → (item : ℤ) × (slice_get items (unsigned_abs n) ≡ Some item)
 item_there items n above below =
-    let within : unsigned_abs n < length items = omega (arith, ints, above, below) in (_, slice_get-get_or items (unsigned_abs n) (pos 0) within)
+    (_, slice_get-get_or items (unsigned_abs n) (pos 0) (within_length items n above below))

@@ -11,7 +11,7 @@ use Rattle.cil_model.specs.Kinds.{typed}
 use Rattle.cil_model.specs.Passes.{Stacks, after_pass, after_passes, arrived, come_to, come_to_all, first_stacks, follow, going_on, goes_behind, lowest_conflict, merged, merged_kind, pass_over, stack_at, successors, visited, with_kind}
 use Rattle.cil_model.specs.declared.instruction.Instr.{Instr}
 use Rattle.cil_model.specs.declared.place.Kind.{Kind}
-use Rattle.cil_model.specs.declared.place.Kind.TheVariants.{Int, Native, Ints, Bools, NullRef, Text}
+use Rattle.cil_model.specs.declared.place.Kind.TheVariants.{Int, Native, Ints, Bools, NullRef, Text, AddrInts, AddrBools}
 use Rattle.cil_model.specs.declared.shape.Shape.{Shape}
 use Rattle.cil_model.specs.declared.type_fault.TypeFault.{TypeFault}
 
@@ -67,6 +67,8 @@ kind_grows Ints Ints c e = inl (same_Some Ints c e)
 kind_grows Bools Bools c e = inl (same_Some Bools c e)
 kind_grows NullRef NullRef c e = inl (same_Some NullRef c e)
 kind_grows Text Text c e = inl (same_Some Text c e)
+kind_grows AddrInts AddrInts c e = inl (same_Some AddrInts c e)
+kind_grows AddrBools AddrBools c e = inl (same_Some AddrBools c e)
 kind_grows Ints NullRef c e = inl (same_Some Ints c e)
 kind_grows Bools NullRef c e = inl (same_Some Bools c e)
 kind_grows NullRef Ints c e = inr (subst (λ (k : Kind). 0 < weight k) (same_Some Ints c e) (omega arith))

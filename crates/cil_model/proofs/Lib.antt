@@ -1,3 +1,4 @@
+pub mod AddressRun
 pub mod AliasRun
 pub mod Alone
 pub mod AloneSafe

@@ -1,9 +1,9 @@
 -- What places take and hold, and what values are.
-use Rattle.std.proofs.Common.{◌≡◌, pos, negsuc, [], ◌∷◌, Some, None, refl, arith}
+use Rattle.std.proofs.Common.{◌≡◌, false, inl, inr, pos, negsuc, [], ◌∷◌, Some, None, refl, arith}
 use Rattle.std.proofs.lemmas.Int.{ints}
-use Rattle.cil_model.specs.Calls.{FitsResult, args_of, result_of}
-use Rattle.cil_model.specs.Values.{Heap, FitPlaces, FitsPlace, IsArray, IsValue, put, put_all, zero_of}
-use Rattle.cil_model.specs.declared.machine.Value.TheVariants.{Int, Native, Null, Array}
+use Rattle.cil_model.specs.Calls.{FitsResult, IsPassedOrNew, args_of, result_of}
+use Rattle.cil_model.specs.Values.{Heap, FitPlaces, FitsPlace, IsArray, IsValue, has_item, put, put_all, zero_of}
+use Rattle.cil_model.specs.declared.machine.Value.TheVariants.{Int, Native, Null, Array, Addr}
 use Rattle.cil_model.specs.declared.place.Place.TheVariants as places
 
 -- The array 0 is of int32, and the array 1 is of bool.
@@ -44,6 +44,12 @@ bool_takes_no_length = refl
 
 void_takes_nothing : put heap places.Void (Int (pos 0)) ≡ None
 void_takes_nothing = refl
+
+ints_take_no_address : put heap places.Ints (Addr 0 0) ≡ None
+ints_take_no_address = refl
+
+int_takes_no_address : put heap places.Int (Addr 0 0) ≡ None
+int_takes_no_address = refl
 
 -- One for each.
 all_are_put : put_all heap (places.Bool ∷ places.Ints ∷ []) (Int (pos 513) ∷ Null ∷ []) ≡ Some (Int (pos 1) ∷ Null ∷ [])
@@ -184,3 +190,25 @@ ints_have_int32 = ((omega (arith, ints), tt), omega arith)
 
 no_array_of_int : IsArray (record { place = places.Int; items = [] }) → ⊥
 no_array_of_int is = is.0
+
+-- ---- addresses
+
+address_of_an_item : IsValue heap (Addr 1 0)
+address_of_an_item = refl
+
+no_item_at_the_length : has_item heap 0 1 ≡ false
+no_item_at_the_length = refl
+
+no_item_in_no_array : has_item heap 2 0 ≡ false
+no_item_in_no_array = refl
+
+-- An address goes with its array: it is out of reach where the array was not passed and is not new.
+address_of_what_was_passed : IsPassedOrNew heap (Null ∷ Array 1 ∷ []) (Some (Addr 1 0))
+address_of_what_was_passed = inl (1, omega arith, refl)
+
+address_of_what_is_new : IsPassedOrNew heap [] (Some (Addr 2 0))
+address_of_what_is_new = inr (omega arith)
+
+address_of_another_array : IsPassedOrNew heap [] (Some (Addr 0 0)) → ⊥
+address_of_another_array (inl (k, below, same)) = omega (arith, below)
+address_of_another_array (inr new) = omega arith

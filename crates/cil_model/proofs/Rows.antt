@@ -7,7 +7,7 @@ use Rattle.std.proofs.lemmas.Int.{ints}
 use Rattle.std.proofs.Math.Facts.{sfits_to_z}
 use Rattle.cil_model.specs.Code.{CodeFrom, CodeOf}
 use Rattle.cil_model.specs.FitKinds.{AreDecoded, OperandFits}
-use Rattle.cil_model.specs.Opcodes.{Form, variable_form, constant_form, test_of, branch_form, operator_of, object_form, short_form, long_form, near, far, operator_form}
+use Rattle.cil_model.specs.Opcodes.{Form, variable_form, constant_form, test_of, branch_form, address_form, operator_of, object_form, short_form, long_form, near, far, operator_form}
 use Rattle.cil_model.specs.Spells.{SpellsForm, Spells}
 use Rattle.cil_model.specs.declared.instruction.BinOp.{BinOp}
 use Rattle.cil_model.specs.declared.instruction.Instr.{Instr}
@@ -71,12 +71,18 @@ branch_fits b =
     let P = Makes OperandFits in
     rows_up_to P b 0x37 _ _ (λ h. tests_fit near (test_of (b - 0x2b)) (λ t. any 1)) (λ h. tests_fit far (test_of (b - 0x38)) (λ t. any 4))
 
+address_fits : (b : ℕ) → Makes OperandFits (address_form b)
+unfolding address_form
+address_fits b =
+    let P = Makes OperandFits in
+    row P b 0x47 _ _ (λ e. any 0) (row P b 0x4a _ _ (λ e. any 0) (row P b 0x52 _ _ (λ e. any 0) (row P b 0x54 _ _ (λ e. any 0) tt)))
+
 object_fits : (b : ℕ) → Makes OperandFits (object_form b)
 unfolding object_form
 object_fits b =
     let P = Makes OperandFits in
     row P b 0x65 _ _ (λ e. any 0) (row P b 0x66 _ _ (λ e. any 0) (row P b 0x69 _ _ (λ e. any 0) (row P b 0x72 _ _ (λ e. any 4) (row P b 0x8d _ _ (λ e. any 4)
-    (row P b 0x8e _ _ (λ e. any 0) (row P b 0x91 _ _ (λ e. any 0) (row P b 0x94 _ _ (λ e. any 0) (row P b 0x9c _ _ (λ e. any 0) (row P b 0x9e _ _ (λ e. any 0) tt)))))))))
+    (row P b 0x8e _ _ (λ e. any 0) (row P b 0x8f _ _ (λ e. any 4) (row P b 0x91 _ _ (λ e. any 0) (row P b 0x94 _ _ (λ e. any 0) (row P b 0x9c _ _ (λ e. any 0) (row P b 0x9e _ _ (λ e. any 0) tt))))))))))
 
 operator_fits : (operator : Option BinOp) → Makes OperandFits (option_map operator_form operator)
 operator_fits None = tt
@@ -87,7 +93,7 @@ unfolding short_form
 short_fits b =
     let P = Makes OperandFits in
     rows_up_to P b 0x14 _ _ (λ h. variable_fits b) (λ h. rows_up_to P b 0x2a _ _ (λ h. constant_fits b) (λ h. rows_up_to P b 0x44 _ _ (λ h. branch_fits b)
-    (λ h. rows P b 0x65 0x9e _ _ (λ l h. object_fits b) (operator_fits (operator_of b)))))
+    (λ h. rows_up_to P b 0x54 _ _ (λ h. address_fits b) (λ h. rows P b 0x65 0x9e _ _ (λ l h. object_fits b) (operator_fits (operator_of b))))))
 
 long_fits : (b : ℕ) → Makes OperandFits (long_form b)
 unfolding long_form

@@ -1,4 +1,4 @@
--- Kinds of operands that instructions take, and some that they do not: lengths, references, null and messages.
+-- Kinds of operands that instructions take, and some that they do not: lengths, references, null, messages, addresses.
 use Rattle.std.proofs.Common.{◌≡◌, pos, List, [], ◌∷◌, Some, None, Ok, Err, codes, refl}
 use Rattle.cil_model.specs.Kinds.{behind, typed}
 use Rattle.cil_model.specs.Passes.{merged}
@@ -7,10 +7,10 @@ use Rattle.cil_model.specs.declared.instruction.BinOp.TheVariants as operators
 use Rattle.cil_model.specs.declared.instruction.CmpOp.TheVariants as comparisons
 use Rattle.cil_model.specs.declared.instruction.Instr.{Instr}
 use Rattle.cil_model.specs.declared.instruction.Op.{Op}
-use Rattle.cil_model.specs.declared.instruction.Op.TheVariants.{LoadArg, StoreArg, LoadLocal, StoreLocal, Null, Const, Dup, Pop, Call, Return, Branch, Switch, Bin, Neg, Not, ConvI4, Text as TextOf, NewArray, Length, LoadElem, StoreElem}
+use Rattle.cil_model.specs.declared.instruction.Op.TheVariants.{LoadArg, StoreArg, LoadLocal, StoreLocal, Null, Const, Dup, Pop, Call, Return, Branch, Switch, Bin, Neg, Not, ConvI4, Text as TextOf, NewArray, Length, LoadElem, StoreElem, LoadAddr, LoadInd, StoreInd}
 use Rattle.cil_model.specs.declared.instruction.Test.TheVariants.{Always, True, False, Cmp}
 use Rattle.cil_model.specs.declared.place.Kind.{Kind}
-use Rattle.cil_model.specs.declared.place.Kind.TheVariants.{Int, Native, Ints, Bools, NullRef, Text}
+use Rattle.cil_model.specs.declared.place.Kind.TheVariants.{Int, Native, Ints, Bools, NullRef, Text, AddrInts, AddrBools}
 use Rattle.cil_model.specs.declared.place.Place.TheVariants as places
 use Rattle.cil_model.specs.declared.shape.Shape.{Shape}
 use Rattle.cil_model.specs.declared.type_fault.TypeFault.TheVariants.{Underflow, WrongKind}
@@ -284,6 +284,118 @@ message_is_not_tested = refl
 length_is_no_condition : Refuses (Call 5) (Native ∷ [])
 unfolding unit_call
 length_is_no_condition = refl
+
+-- ---- addresses
+
+address_of_ints : Leaves (LoadAddr 2) (Int ∷ Ints ∷ []) (AddrInts ∷ [])
+address_of_ints = refl
+
+address_of_bools : Leaves (LoadAddr 1) (Int ∷ Bools ∷ []) (AddrBools ∷ [])
+address_of_bools = refl
+
+-- The number alone tells which address it is.
+address_in_null : Leaves (LoadAddr 1) (Int ∷ NullRef ∷ []) (AddrBools ∷ [])
+address_in_null = refl
+
+address_in_the_other_type : Refuses (LoadAddr 1) (Int ∷ Ints ∷ [])
+address_in_the_other_type = refl
+
+length_is_no_index_of_an_address : Refuses (LoadAddr 2) (Native ∷ Ints ∷ [])
+length_is_no_index_of_an_address = refl
+
+no_address_of_that : Refuses (LoadAddr 0) (Int ∷ Ints ∷ [])
+no_address_of_that = refl
+
+no_address_in_an_address : Refuses (LoadAddr 2) (Int ∷ AddrInts ∷ [])
+no_address_in_an_address = refl
+
+item_at_an_address : Leaves (LoadInd places.Ints) (AddrInts ∷ []) (Int ∷ [])
+item_at_an_address = refl
+
+bool_at_an_address : Leaves (LoadInd places.Bools) (AddrBools ∷ []) (Int ∷ [])
+bool_at_an_address = refl
+
+bool_at_an_address_of_int : Refuses (LoadInd places.Bools) (AddrInts ∷ [])
+bool_at_an_address_of_int = refl
+
+array_is_no_address : Refuses (LoadInd places.Ints) (Ints ∷ [])
+array_is_no_address = refl
+
+null_is_no_address : Refuses (LoadInd places.Ints) (NullRef ∷ [])
+null_is_no_address = refl
+
+item_to_an_address : Leaves (StoreInd places.Ints) (Int ∷ AddrInts ∷ []) []
+item_to_an_address = refl
+
+bool_to_an_address : Leaves (StoreInd places.Bools) (Int ∷ AddrBools ∷ []) []
+bool_to_an_address = refl
+
+int_to_an_address_of_bool : Refuses (StoreInd places.Ints) (Int ∷ AddrBools ∷ [])
+int_to_an_address_of_bool = refl
+
+length_to_an_address : Refuses (StoreInd places.Ints) (Native ∷ AddrInts ∷ [])
+length_to_an_address = refl
+
+address_is_copied : Leaves Dup (AddrInts ∷ []) (AddrInts ∷ AddrInts ∷ [])
+address_is_copied = refl
+
+address_is_dropped : Leaves Pop (AddrBools ∷ []) []
+address_is_dropped = refl
+
+address_is_not_tested : Refuses (Branch True 9) (AddrInts ∷ [])
+address_is_not_tested = refl
+
+addresses_are_not_compared : Refuses (Bin operators.Ceq) (AddrInts ∷ AddrInts ∷ [])
+addresses_are_not_compared = refl
+
+address_is_not_compared_with_null : Refuses (Branch (Cmp comparisons.Eq) 9) (NullRef ∷ AddrInts ∷ [])
+address_is_not_compared_with_null = refl
+
+null_is_not_compared_with_an_address : Refuses (Branch (Cmp comparisons.Eq) 9) (AddrBools ∷ NullRef ∷ [])
+null_is_not_compared_with_an_address = refl
+
+address_is_not_above_null : Refuses (Bin operators.CgtUn) (NullRef ∷ AddrInts ∷ [])
+address_is_not_above_null = refl
+
+address_is_not_converted : Refuses ConvI4 (AddrInts ∷ [])
+address_is_not_converted = refl
+
+address_is_not_stored : Refuses (StoreArg 0) (AddrInts ∷ [])
+address_is_not_stored = refl
+
+address_is_not_passed : Refuses (Call 100) (Int ∷ AddrInts ∷ [])
+unfolding unit_call
+address_is_not_passed = refl
+
+address_is_not_returned : Refuses Return (AddrInts ∷ [])
+address_is_not_returned = refl
+
+address_has_no_length : Refuses Length (AddrInts ∷ [])
+address_has_no_length = refl
+
+index_of_an_address_is_missing : Lacks (LoadAddr 2) (Ints ∷ [])
+index_of_an_address_is_missing = refl
+
+address_is_missing : Lacks (LoadInd places.Ints) []
+address_is_missing = refl
+
+address_to_store_to_is_missing : Lacks (StoreInd places.Ints) (Int ∷ [])
+address_to_store_to_is_missing = refl
+
+addresses_merge : merged (AddrInts ∷ AddrBools ∷ []) (AddrInts ∷ AddrBools ∷ []) ≡ Some (AddrInts ∷ AddrBools ∷ [])
+addresses_merge = refl
+
+addresses_of_two_types_do_not : merged (AddrInts ∷ []) (AddrBools ∷ []) ≡ None
+addresses_of_two_types_do_not = refl
+
+address_and_null_do_not : merged (AddrInts ∷ []) (NullRef ∷ []) ≡ None
+address_and_null_do_not = refl
+
+null_and_address_do_not : merged (NullRef ∷ []) (AddrBools ∷ []) ≡ None
+null_and_address_do_not = refl
+
+address_and_array_do_not : merged (AddrInts ∷ []) (Ints ∷ []) ≡ None
+address_and_array_do_not = refl
 
 -- ---- operands that are missing
 

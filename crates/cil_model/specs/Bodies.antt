@@ -47,6 +47,9 @@ is_executed (ops.NewArray number) = true
 is_executed ops.Length = true
 is_executed (ops.LoadElem place) = true
 is_executed (ops.StoreElem place) = true
+is_executed (ops.LoadAddr number) = true
+is_executed (ops.LoadInd place) = true
+is_executed (ops.StoreInd place) = true
 
 -- The body can be run: it begins with an empty stack, and what stands from its start on is executed, and branches
 -- no further back.

@@ -76,10 +76,24 @@ pub record WorldCall (w : World) (callers : List Frame) (number : ℕ) (i : Inst
 
 -- ---- a free call
 
--- The value is an array that was passed or is new, or no array.
+-- The array that a value names: that of a reference, or that of an address.
+abbrev pub named_array : Value → Option ℕ
+named_array (values.Array a) = Some a
+named_array (values.Addr a n) = Some a
+named_array (values.Int n) = None
+named_array (values.Native n) = None
+named_array values.Null = None
+named_array values.Text = None
+
+-- The array, if there is one, was passed or is new.
+abbrev pub IsArrayPassedOrNew : Heap → List Value → Option ℕ → Type 0
+IsArrayPassedOrNew heap args None = Unit {0}
+IsArrayPassedOrNew heap args (Some a) = Contains args (values.Array a) ⊎ (length heap ≤ a)
+
+-- The value, if there is one, names an array that was passed or is new, or no array.
 abbrev pub IsPassedOrNew : Heap → List Value → Option Value → Type 0
-IsPassedOrNew heap args (Some (values.Array a)) = Contains args (values.Array a) ⊎ (length heap ≤ a)
-IsPassedOrNew heap args _ = Unit {0}
+IsPassedOrNew heap args None = Unit {0}
+IsPassedOrNew heap args (Some value) = IsArrayPassedOrNew heap args (named_array value)
 
 -- The result of a call is a value of its place, none where it is void.
 abbrev pub FitsResult : Heap → Place → Option Value → Type 0

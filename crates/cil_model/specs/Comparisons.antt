@@ -66,4 +66,5 @@ is_true (values.Int n) = Some (not (int_eq n (pos 0)))
 is_true (values.Native n) = Some (not (n == 0))
 is_true values.Null = Some false
 is_true (values.Array i) = Some true
+is_true (values.Addr a n) = None
 is_true values.Text = None

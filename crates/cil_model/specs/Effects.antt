@@ -1,6 +1,6 @@
 -- What an instruction does to its own frame: one row for each, except calls of methods and returns.
 -- The first value of a stack is its top. An instruction that finds no row is undefined (ECMA-335 III.3, III.4).
-use Rattle.std.specs.Prelude.{◌≡◌, ℕ, ◌+◌, ℤ, pos, Bool, true, false, not, option_map, List, [], ◌∷◌, ◌++◌, length, replicate, Option, Some, None, Result, Ok, Err, if◌then◌else◌, int_lt, int_le, unsigned_abs, slice_get, slice_set, ◌⊎◌}
+use Rattle.std.specs.Prelude.{◌≡◌, ℕ, ◌+◌, ℤ, pos, Bool, true, false, not, nat_lt, option_map, List, [], ◌∷◌, ◌++◌, length, replicate, Option, Some, None, Result, Ok, Err, if◌then◌else◌, int_lt, int_le, unsigned_abs, slice_get, slice_set, ◌⊎◌}
 use Rattle.std.specs.Ordering.{int_eq}
 use Rattle.std.specs.Int.{int_rem_euclid}
 use Rattle.std.specs.Option.{option_and_then}
@@ -22,7 +22,7 @@ use Rattle.cil_model.specs.declared.machine.FaultKind.{FaultKind}
 use Rattle.cil_model.specs.declared.machine.FaultKind.TheVariants as faults
 use Rattle.cil_model.specs.declared.machine.Frame.{Frame}
 use Rattle.cil_model.specs.declared.machine.Value.{Value}
-use Rattle.cil_model.specs.declared.machine.Value.TheVariants.{Int, Native, Null, Array, Text}
+use Rattle.cil_model.specs.declared.machine.Value.TheVariants.{Int, Native, Null, Array, Addr, Text}
 use Rattle.cil_model.specs.declared.place.Place.{Place}
 use Rattle.cil_model.specs.declared.place.Place.TheVariants as places
 use Rattle.cil_model.specs.declared.unit.Unit.{Unit as MethodUnit}
@@ -200,6 +200,32 @@ stores place i f heap (Int v ∷ Int n ∷ Array a ∷ rest) =
     of_place place (slice_get heap a) (λ cell. at_index cell n (goes_on i f (with_item heap a cell (unsigned_abs n) (item_of place v)) rest))
 stores place i f heap _ = []
 
+-- ---- addresses
+
+-- The address of an item of an array of this type.
+abbrev pub addresses : Place → Instr → Frame → Heap → List Value → List Effect
+addresses place i f heap (Int n ∷ Null ∷ rest) = Faults faults.NullUse ∷ []
+addresses place i f heap (Int n ∷ Array a ∷ rest) =
+    of_place place (slice_get heap a) (λ cell. at_index cell n (goes_on i f heap (Addr a (unsigned_abs n) ∷ rest)))
+addresses place i f heap _ = []
+
+abbrev pub takes_address : Option Place → Instr → Frame → Heap → List Value → List Effect
+takes_address None i f heap stack = []
+takes_address (Some place) i f heap stack = addresses place i f heap stack
+
+-- The item at an address in an array of this type.
+abbrev pub loads_through : Place → Instr → Frame → Heap → List Value → List Effect
+loads_through place i f heap (Addr a n ∷ rest) =
+    of_place place (slice_get heap a) (λ cell. pushes i f heap rest (option_map Int (slice_get cell.items n)))
+loads_through place i f heap _ = []
+
+-- An address whose item is not there has no row, as above.
+abbrev pub stores_through : Place → Instr → Frame → Heap → List Value → List Effect
+stores_through place i f heap (Int v ∷ Addr a n ∷ rest) =
+    of_place place (slice_get heap a)
+    (λ cell. if nat_lt n (length cell.items) then goes_on i f (with_item heap a cell n (item_of place v)) rest else [])
+stores_through place i f heap _ = []
+
 -- ---- Assert and Assume
 
 -- The stack below the message, where there is to be one.
@@ -244,6 +270,9 @@ effects_of (ops.NewArray number) unit i f heap = new_array (array_place number) 
 effects_of ops.Length unit i f heap = array_length i f heap f.stack
 effects_of (ops.LoadElem place) unit i f heap = loads place i f heap f.stack
 effects_of (ops.StoreElem place) unit i f heap = stores place i f heap f.stack
+effects_of (ops.LoadAddr number) unit i f heap = takes_address (array_place number) i f heap f.stack
+effects_of (ops.LoadInd place) unit i f heap = loads_through place i f heap f.stack
+effects_of (ops.StoreInd place) unit i f heap = stores_through place i f heap f.stack
 
 abbrev pub effects : MethodUnit → Instr → Frame → Heap → List Effect
 effects unit i f heap = effects_of i.op unit i f heap

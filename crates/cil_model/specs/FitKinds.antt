@@ -10,7 +10,7 @@ use Rattle.cil_model.specs.Configs.{IsFrameOf}
 use Rattle.cil_model.specs.Passes.{Stacks, stack_at}
 use Rattle.cil_model.specs.Runs.{IsDefined, LocalRuns, LocalStep, Step, instr_at}
 use Rattle.cil_model.specs.Shapes.{shape_of}
-use Rattle.cil_model.specs.Values.{Heap, IsHeap, has_array}
+use Rattle.cil_model.specs.Values.{Heap, HasItemOf, IsHeap, has_array}
 use Rattle.cil_model.specs.WellFormed.{HoldValues}
 use Rattle.cil_model.specs.Worlds.{Agree}
 use Rattle.cil_model.specs.declared.instruction.Instr.{Instr}
@@ -40,6 +40,8 @@ FitsKind heap kinds.Bools values.Null = Unit {0}
 FitsKind heap kinds.Bools (values.Array i) = has_array heap places.Bools i ≡ true
 FitsKind heap kinds.NullRef values.Null = Unit {0}
 FitsKind heap kinds.Text values.Text = Unit {0}
+FitsKind heap kinds.AddrInts (values.Addr a n) = HasItemOf heap places.Ints a n
+FitsKind heap kinds.AddrBools (values.Addr a n) = HasItemOf heap places.Bools a n
 FitsKind heap _ _ = ⊥
 
 -- Values of these kinds, from the top of both stacks on.
@@ -82,6 +84,9 @@ OperandFits (ops.NewArray number) = Unit {0}
 OperandFits ops.Length = Unit {0}
 OperandFits (ops.LoadElem place) = Unit {0}
 OperandFits (ops.StoreElem place) = Unit {0}
+OperandFits (ops.LoadAddr number) = Unit {0}
+OperandFits (ops.LoadInd place) = Unit {0}
+OperandFits (ops.StoreInd place) = Unit {0}
 
 -- What decoding tells of instructions: constants are int32, and each branch goes to an instruction.
 pub record AreDecoded (is : List Instr) : Type 0 where

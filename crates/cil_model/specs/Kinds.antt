@@ -12,7 +12,7 @@ use Rattle.cil_model.specs.declared.instruction.Op.TheVariants as ops
 use Rattle.cil_model.specs.declared.instruction.Test.{Test}
 use Rattle.cil_model.specs.declared.instruction.Test.TheVariants as tests
 use Rattle.cil_model.specs.declared.place.Kind.{Kind}
-use Rattle.cil_model.specs.declared.place.Kind.TheVariants.{Int, Native, Ints, Bools, NullRef, Text}
+use Rattle.cil_model.specs.declared.place.Kind.TheVariants.{Int, Native, Ints, Bools, NullRef, Text, AddrInts, AddrBools}
 use Rattle.cil_model.specs.declared.place.Place.{Place}
 use Rattle.cil_model.specs.declared.place.Place.TheVariants as places
 use Rattle.cil_model.specs.declared.shape.Shape.{Shape}
@@ -61,6 +61,18 @@ is_reference _ = false
 -- An array of this type may be of the kind, or null.
 abbrev pub is_array_of : Place → Kind → Bool
 is_array_of place kind = is_reference kind && takes place kind
+
+-- What the address of an item of such an array is: nothing where the type is none of arrays.
+abbrev pub address_kind : Place → Option Kind
+address_kind places.Bools = Some AddrBools
+address_kind places.Ints = Some AddrInts
+address_kind _ = None
+
+-- The address of an item of such an array is of the kind.
+abbrev pub is_address_of : Place → Kind → Bool
+is_address_of places.Bools AddrBools = true
+is_address_of places.Ints AddrInts = true
+is_address_of _ _ = false
 
 -- References to arrays of one type, or one of them null.
 abbrev pub are_comparable : Kind → Kind → Bool
@@ -135,6 +147,9 @@ operand_count shape (ops.NewArray number) = 1
 operand_count shape ops.Length = 1
 operand_count shape (ops.LoadElem place) = 2
 operand_count shape (ops.StoreElem place) = 3
+operand_count shape (ops.LoadAddr number) = 2
+operand_count shape (ops.LoadInd place) = 1
+operand_count shape (ops.StoreInd place) = 2
 operand_count shape ops.Nop = 0
 operand_count shape (ops.LoadArg n) = 0
 operand_count shape (ops.LoadLocal n) = 0
@@ -237,6 +252,18 @@ abbrev pub behind_store : Place → List Kind → Option (List Kind)
 behind_store place (Int ∷ Int ∷ array ∷ rest) = when (is_array_of place array) rest
 behind_store place _ = None
 
+abbrev pub behind_address : Option Place → List Kind → Option (List Kind)
+behind_address (Some place) (Int ∷ array ∷ rest) = when (is_array_of place array) (pushed_kind (address_kind place) rest)
+behind_address _ _ = None
+
+abbrev pub behind_load_through : Place → List Kind → Option (List Kind)
+behind_load_through place (address ∷ rest) = when (is_address_of place address) (Int ∷ rest)
+behind_load_through place [] = None
+
+abbrev pub behind_store_through : Place → List Kind → Option (List Kind)
+behind_store_through place (Int ∷ address ∷ rest) = when (is_address_of place address) rest
+behind_store_through place _ = None
+
 abbrev pub duplicated : List Kind → Option (List Kind)
 duplicated (kind ∷ rest) = Some (kind ∷ kind ∷ rest)
 duplicated [] = None
@@ -269,6 +296,9 @@ behind shape (ops.NewArray number) stack = behind_new_array (array_place number)
 behind shape ops.Length stack = behind_length stack
 behind shape (ops.LoadElem place) stack = behind_load place stack
 behind shape (ops.StoreElem place) stack = behind_store place stack
+behind shape (ops.LoadAddr number) stack = behind_address (array_place number) stack
+behind shape (ops.LoadInd place) stack = behind_load_through place stack
+behind shape (ops.StoreInd place) stack = behind_store_through place stack
 
 -- The stack after an instruction, within its size.
 abbrev pub within_size : Shape → ℕ → Option (List Kind) → Result (List Kind) TypeFault

@@ -113,6 +113,15 @@ operator_of b =
 abbrev pub operator_form : BinOp → Form
 operator_form operator = (0, λ next n. ops.Bin operator)
 
+-- Loads and stores through addresses of items: 47 to 54.
+unfoldable pub address_form : ℕ → Option Form
+address_form b =
+    if b == 0x47 then alone (ops.LoadInd places.Bools)
+    else if b == 0x4a then alone (ops.LoadInd places.Ints)
+    else if b == 0x52 then alone (ops.StoreInd places.Bools)
+    else if b == 0x54 then alone (ops.StoreInd places.Ints)
+    else None
+
 -- The operators of one number, strings and arrays: 65 to 9E.
 unfoldable pub object_form : ℕ → Option Form
 object_form b =
@@ -122,6 +131,7 @@ object_form b =
     else if b == 0x72 then with_operand 4 (λ n. ops.Text n)
     else if b == 0x8d then with_operand 4 (λ n. ops.NewArray n)
     else if b == 0x8e then alone ops.Length
+    else if b == 0x8f then with_operand 4 (λ n. ops.LoadAddr n)
     else if b == 0x91 then alone (ops.LoadElem places.Bools)
     else if b == 0x94 then alone (ops.LoadElem places.Ints)
     else if b == 0x9c then alone (ops.StoreElem places.Bools)
@@ -134,6 +144,7 @@ short_form b =
     if nat_le b 0x14 then variable_form b
     else if nat_le b 0x2a then constant_form b
     else if nat_le b 0x44 then branch_form b
+    else if nat_le b 0x54 then address_form b
     else if nat_le 0x65 b && nat_le b 0x9e then object_form b
     else option_map operator_form (operator_of b)
 

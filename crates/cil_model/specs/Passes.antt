@@ -9,7 +9,7 @@ use Rattle.cil_model.specs.declared.instruction.Op.{Op}
 use Rattle.cil_model.specs.declared.instruction.Op.TheVariants as ops
 use Rattle.cil_model.specs.declared.instruction.Test.TheVariants as tests
 use Rattle.cil_model.specs.declared.place.Kind.{Kind}
-use Rattle.cil_model.specs.declared.place.Kind.TheVariants.{Int, Native, Ints, Bools, NullRef, Text}
+use Rattle.cil_model.specs.declared.place.Kind.TheVariants.{Int, Native, Ints, Bools, NullRef, Text, AddrInts, AddrBools}
 use Rattle.cil_model.specs.declared.shape.Shape.{Shape}
 use Rattle.cil_model.specs.declared.type_fault.TypeFault.{TypeFault}
 use Rattle.cil_model.specs.declared.type_fault.TypeFault.TheVariants.{Conflict, FallsOff}
@@ -37,6 +37,8 @@ merged_kind Ints Ints = Some Ints
 merged_kind Bools Bools = Some Bools
 merged_kind NullRef NullRef = Some NullRef
 merged_kind Text Text = Some Text
+merged_kind AddrInts AddrInts = Some AddrInts
+merged_kind AddrBools AddrBools = Some AddrBools
 merged_kind Ints NullRef = Some Ints
 merged_kind NullRef Ints = Some Ints
 merged_kind Bools NullRef = Some Bools

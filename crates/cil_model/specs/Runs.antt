@@ -76,6 +76,9 @@ Row Calls (ops.NewArray number) callers unit i f heap new = EffectRow callers un
 Row Calls ops.Length callers unit i f heap new = EffectRow callers unit i f heap new
 Row Calls (ops.LoadElem place) callers unit i f heap new = EffectRow callers unit i f heap new
 Row Calls (ops.StoreElem place) callers unit i f heap new = EffectRow callers unit i f heap new
+Row Calls (ops.LoadAddr number) callers unit i f heap new = EffectRow callers unit i f heap new
+Row Calls (ops.LoadInd place) callers unit i f heap new = EffectRow callers unit i f heap new
+Row Calls (ops.StoreInd place) callers unit i f heap new = EffectRow callers unit i f heap new
 
 -- ---- one step
 

@@ -1,4 +1,4 @@
--- What the numbers in a unit's code name: those of its calls and of its new arrays.
+-- What the numbers in a unit's code name: those of its calls, of its new arrays and of the arrays of its addresses.
 use Rattle.std.specs.Prelude.{ℕ, ◌-◌, ◌==◌, nat_le, Bool, true, false, Option, Some, None, if◌then◌else◌}
 use Rattle.cil_model.specs.declared.place.Place.{Place}
 use Rattle.cil_model.specs.declared.place.Place.TheVariants as places
@@ -56,6 +56,6 @@ abbrev pub is_assert : Option UnitCall → Bool
 is_assert (Some (Assert false)) = true
 is_assert _ = false
 
--- The type of the arrays that newarr makes.
+-- The type of the arrays that newarr makes, and of whose items ldelema takes addresses.
 abbrev pub array_place : ℕ → Option Place
 array_place number = if number == 1 then Some places.Bools else if number == 2 then Some places.Ints else None

@@ -1,5 +1,5 @@
 -- The machine's values and heaps, and the places that hold values (ECMA-335 I.12.3.2).
-use Rattle.std.specs.Prelude.{◌≡◌, ℕ, ◌^◌, ◌<◌, ℤ, pos, ◌≤ℤ◌, ◌<ℤ◌, Bool, true, false, ◌==◌, List, [], ◌∷◌, length, Option, Some, None, slice_get, FitsSigned, if◌then◌else◌}
+use Rattle.std.specs.Prelude.{◌≡◌, ℕ, ◌^◌, ◌<◌, ℤ, pos, ◌≤ℤ◌, ◌<ℤ◌, Bool, true, false, ◌==◌, nat_lt, List, [], ◌∷◌, length, Option, Some, None, slice_get, FitsSigned, if◌then◌else◌}
 use Rattle.std.specs.Option.{option_map_or}
 use Rattle.std.specs.List.{AllByRecursion}
 use Rattle.std.specs.Int.{w32, int_rem_euclid}
@@ -44,6 +44,14 @@ same_place a b = place_number a == place_number b
 -- The heap has an array of this type there.
 abbrev pub has_array : Heap → Place → ℕ → Bool
 has_array heap place i = option_map_or (λ cell. same_place cell.place place) (slice_get heap i) false
+
+-- The array there has an item of this index.
+abbrev pub has_item : Heap → ℕ → ℕ → Bool
+has_item heap a n = option_map_or (λ cell. nat_lt n (length cell.items)) (slice_get heap a) false
+
+-- The array there is of this type, and has the item.
+abbrev pub HasItemOf : Heap → Place → ℕ → ℕ → Type 0
+HasItemOf heap place a n = (has_array heap place a ≡ true) × (has_item heap a n ≡ true)
 
 -- A value as it is put into a place: a bool place keeps its low eight bits, and a place of arrays takes null
 -- and arrays of its type. None where the value has not the form of the place.
@@ -94,4 +102,5 @@ IsValue heap (values.Int n) = FitsSigned w32 n
 IsValue heap (values.Native n) = n < 2 ^ 31
 IsValue heap values.Null = Unit {0}
 IsValue heap (values.Array i) = i < length heap
+IsValue heap (values.Addr a n) = has_item heap a n ≡ true
 IsValue heap values.Text = Unit {0}

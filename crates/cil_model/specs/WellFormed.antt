@@ -26,6 +26,7 @@ use Rattle.cil_model.specs.declared.unit.Unit.{Unit as MethodUnit}
 abbrev pub NamesSomething : Op → Type 0
 NamesSomething (ops.Call number) = IsSome (unit_call number)
 NamesSomething (ops.NewArray number) = IsSome (array_place number)
+NamesSomething (ops.LoadAddr number) = IsSome (array_place number)
 NamesSomething (ops.Text number) = number ≡ 0
 NamesSomething ops.Nop = Unit {0}
 NamesSomething (ops.LoadArg n) = Unit {0}
@@ -46,6 +47,8 @@ NamesSomething ops.ConvI4 = Unit {0}
 NamesSomething ops.Length = Unit {0}
 NamesSomething (ops.LoadElem place) = Unit {0}
 NamesSomething (ops.StoreElem place) = Unit {0}
+NamesSomething (ops.LoadInd place) = Unit {0}
+NamesSomething (ops.StoreInd place) = Unit {0}
 
 -- The number of the callee that an operation calls.
 abbrev pub called_by : Op → Option ℕ
@@ -71,6 +74,9 @@ called_by (ops.NewArray number) = None
 called_by ops.Length = None
 called_by (ops.LoadElem place) = None
 called_by (ops.StoreElem place) = None
+called_by (ops.LoadAddr number) = None
+called_by (ops.LoadInd place) = None
+called_by (ops.StoreInd place) = None
 
 -- Each of these callees is one of the first or the next one, and in the end the first are all of them.
 abbrev pub InOrderOfUse : ℕ → ℕ → List ℕ → Type 0

@@ -47,6 +47,12 @@ pub enum Op {
     LoadElem(Place),
     /// The place is that of the array.
     StoreElem(Place),
+    /// The address of an item of an array, whose type the number names.
+    LoadAddr(u32),
+    /// The item at an address. The place is that of the array.
+    LoadInd(Place),
+    /// The place is that of the array.
+    StoreInd(Place),
 }
 
 /// When a branch is taken.

@@ -2,7 +2,7 @@
 
 ghost use Rattle.std.specs.Prelude.{◌≡◌};
 ghost use Rattle.cil_model.specs.Comparisons.{comparison_of};
-ghost use Rattle.cil_model.specs.Kinds.{kind_of, takes, is_number, is_reference, is_array_of, are_comparable, is_equality, compares_kinds, pushes_comparison, is_tested};
+ghost use Rattle.cil_model.specs.Kinds.{kind_of, takes, is_number, is_reference, is_array_of, address_kind, is_address_of, are_comparable, is_equality, compares_kinds, pushes_comparison, is_tested};
 ghost use Rattle.cil_model.specs.Passes.{merged_kind};
 
 use crate::instruction::{BinOp, CmpOp};
@@ -51,6 +51,27 @@ pub fn is_array_of(place: Place, kind: Kind) -> bool
     ensures { result ≡ is_array_of place kind }
 {
     is_reference(kind) && takes(place, kind)
+}
+
+/// Returns the kind of the addresses of items of such an array: none where the type is none of arrays.
+pub fn address_kind(place: Place) -> Option<Kind>
+    ensures { result ≡ address_kind place }
+{
+    match place {
+        Place::Bools => Some(Kind::AddrBools),
+        Place::Ints => Some(Kind::AddrInts),
+        Place::Void | Place::Bool | Place::Int => None,
+    }
+}
+
+/// Returns whether the kind is that of addresses of items of such an array.
+pub fn is_address_of(place: Place, kind: Kind) -> bool
+    ensures { result ≡ is_address_of place kind }
+{
+    matches!(
+        (place, kind),
+        (Place::Bools, Kind::AddrBools) | (Place::Ints, Kind::AddrInts)
+    )
 }
 
 /// Returns whether they are references to arrays of one type, or one of them null.
@@ -121,6 +142,8 @@ pub fn merged_kind(a: Kind, b: Kind) -> Option<Kind>
         (Kind::Bools, Kind::Bools | Kind::NullRef) | (Kind::NullRef, Kind::Bools) => {
             Some(Kind::Bools)
         }
+        (Kind::AddrInts, Kind::AddrInts) => Some(Kind::AddrInts),
+        (Kind::AddrBools, Kind::AddrBools) => Some(Kind::AddrBools),
         _ => None,
     }
 }

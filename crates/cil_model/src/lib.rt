@@ -27,8 +27,8 @@ pub use clause::{Clause, ClauseKind};
 pub use copies::copy_clauses;
 pub use instruction::{BinOp, CmpOp, Instr, Op, Targets, Test, UnOp};
 pub use kind_rules::{
-    compares_kinds, comparison_of, is_array_of, is_number, is_reference, is_tested, kind_of,
-    merged_kind, pushes_comparison, takes,
+    address_kind, compares_kinds, comparison_of, is_address_of, is_array_of, is_number,
+    is_reference, is_tested, kind_of, merged_kind, pushes_comparison, takes,
 };
 pub use limits::{
     MAX_BLOCKS, MAX_CLAUSES, MAX_CODE_BYTES, MAX_CONDITIONS, MAX_FILE_BYTES, MAX_INSTRUCTIONS,

@@ -13,6 +13,8 @@ pub enum Value {
     Null,
     /// The array of this index in the heap.
     Array(u32),
+    /// The address of an item: the index of its array in the heap, and its own index there.
+    Addr(u32, u32),
     Text,
 }
 

@@ -65,7 +65,7 @@ pub fn operand_count(shape: &Shape, op: &Op) -> usize
         Op::Return => result_count(shape.result),
         Op::Branch(test, _) => test_operands(*test),
         Op::StoreElem(_) => 3,
-        Op::Bin(_) | Op::LoadElem(_) => 2,
+        Op::Bin(_) | Op::LoadElem(_) | Op::LoadAddr(_) | Op::StoreInd(_) => 2,
         Op::StoreArg(_)
         | Op::StoreLocal(_)
         | Op::Dup
@@ -75,7 +75,8 @@ pub fn operand_count(shape: &Shape, op: &Op) -> usize
         | Op::Not
         | Op::ConvI4
         | Op::NewArray(_)
-        | Op::Length => 1,
+        | Op::Length
+        | Op::LoadInd(_) => 1,
         Op::Nop | Op::LoadArg(_) | Op::LoadLocal(_) | Op::Null | Op::Const(_) | Op::Text(_) => 0,
     }
 }

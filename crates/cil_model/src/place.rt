@@ -70,4 +70,8 @@ pub enum Kind {
     NullRef,
     /// A contract's message.
     Text,
+    /// The address of an item of an `int32[]`.
+    AddrInts,
+    /// The address of an item of a `bool[]`.
+    AddrBools,
 }

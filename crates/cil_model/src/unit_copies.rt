@@ -37,6 +37,9 @@ impl Op {
             Op::Length => Op::Length,
             Op::LoadElem(place) => Op::LoadElem(*place),
             Op::StoreElem(place) => Op::StoreElem(*place),
+            Op::LoadAddr(number) => Op::LoadAddr(*number),
+            Op::LoadInd(place) => Op::LoadInd(*place),
+            Op::StoreInd(place) => Op::StoreInd(*place),
         })
     }
 }

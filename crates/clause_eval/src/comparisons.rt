@@ -138,6 +138,6 @@ pub fn is_true(value: Value) -> Option<bool>
         Value::Native(n) => Some(n != 0),
         Value::Null => Some(false),
         Value::Array(_) => Some(true),
-        Value::Text => None,
+        Value::Addr(..) | Value::Text => None,
     }
 }

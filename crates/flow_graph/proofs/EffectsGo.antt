@@ -1,10 +1,10 @@
 -- Where a frame goes on: at one of the offsets to which its instruction goes on.
-use Rattle.std.proofs.Common.{◌≡◌, ℕ, ◌+◌, ℤ, pos, int_lt, int_le, int_eq, Bool, true, false, not, List, [], ◌∷◌, ◌++◌, length, slice_get, Option, Some, None, option_map, Result, Ok, Err, refl, sym, subst, inl, inr}
+use Rattle.std.proofs.Common.{◌≡◌, ℕ, ◌+◌, ℤ, pos, int_lt, int_le, int_eq, nat_lt, Bool, true, false, not, List, [], ◌∷◌, ◌++◌, length, slice_get, Option, Some, None, option_map, Result, Ok, Err, refl, sym, subst, inl, inr}
 use Rattle.std.specs.List.{AllByRecursion}
 use Rattle.std.proofs.lemmas.Bool.{cond_both}
 use Rattle.cil_model.specs.Arithmetic.{operated, unsigned}
 use Rattle.cil_model.specs.Comparisons.{comparison_of, comparison_value, compares_values, is_true, number_of}
-use Rattle.cil_model.specs.Effects.{Effect, GoesOn, Faults, Assumes, HasEffect, arithmetic, array_length, at_index, below_message, binary, branches, branches_by, changes, comparison, contract_call, converts, duplicates, effects, effects_of, gives, goes_to, item_value, loads, makes_number, new_array, of_place, pops, pushes, stored, stores, stores_arg, stores_local, switches, switches_to, tests_condition, with_args, with_locals}
+use Rattle.cil_model.specs.Effects.{Effect, GoesOn, Faults, Assumes, HasEffect, addresses, arithmetic, array_length, at_index, below_message, binary, branches, branches_by, changes, comparison, contract_call, converts, duplicates, effects, effects_of, gives, goes_to, item_value, loads, loads_through, makes_number, new_array, of_place, pops, pushes, stored, stores, stores_arg, stores_local, stores_through, switches, switches_to, takes_address, tests_condition, with_args, with_locals}
 use Rattle.cil_model.specs.Passes.{successors}
 use Rattle.cil_model.specs.UnitCalls.{array_place, unit_call}
 use Rattle.cil_model.specs.Values.{Heap, same_place}
@@ -22,7 +22,7 @@ use Rattle.cil_model.specs.declared.machine.FaultKind.{FaultKind}
 use Rattle.cil_model.specs.declared.machine.FaultKind.TheVariants as faults
 use Rattle.cil_model.specs.declared.machine.Frame.{Frame}
 use Rattle.cil_model.specs.declared.machine.Value.{Value}
-use Rattle.cil_model.specs.declared.machine.Value.TheVariants.{Int, Native, Null, Array}
+use Rattle.cil_model.specs.declared.machine.Value.TheVariants.{Int, Native, Null, Array, Addr}
 use Rattle.cil_model.specs.declared.place.Place.{Place}
 use Rattle.cil_model.specs.declared.unit.Unit.{Unit as MethodUnit}
 use Rattle.cil_model.specs.declared.unit_numbers.UnitCall.{UnitCall}
@@ -141,6 +141,25 @@ module _ (ats : List ℕ) (unit : MethodUnit) (i : Instr) (f : Frame) (heap : He
   stores_go place (Int v ∷ Int n ∷ Array a ∷ rest) = of_place_goes place (slice_get heap a) _ (λ cell. at_index_goes cell n _ (next, tt))
   stores_go place _ = tt
 
+  addresses_go : (place : Place) (stack : List Value) → Go (addresses place i f heap stack)
+  addresses_go place (Int n ∷ Null ∷ rest) = (tt, tt)
+  addresses_go place (Int n ∷ Array a ∷ rest) = of_place_goes place (slice_get heap a) _ (λ cell. at_index_goes cell n _ (next, tt))
+  addresses_go place _ = tt
+
+  takes_address_goes : (place : Option Place) (stack : List Value) → Go (takes_address place i f heap stack)
+  takes_address_goes None stack = tt
+  takes_address_goes (Some place) stack = addresses_go place stack
+
+  loads_through_go : (place : Place) (stack : List Value) → Go (loads_through place i f heap stack)
+  loads_through_go place (Addr a n ∷ rest) =
+      of_place_goes place (slice_get heap a) _ (λ cell. pushes_go rest (option_map Int (slice_get cell.items n)))
+  loads_through_go place _ = tt
+
+  stores_through_go : (place : Place) (stack : List Value) → Go (stores_through place i f heap stack)
+  stores_through_go place (Int v ∷ Addr a n ∷ rest) =
+      of_place_goes place (slice_get heap a) _ (λ cell. cond_both (nat_lt n (length cell.items)) _ _ Go (λ within. (next, tt)) (λ beyond. tt))
+  stores_through_go place _ = tt
+
   contract_call_goes : (call : Option UnitCall) → Go (contract_call call i f heap)
   contract_call_goes (Some (calls.Assert message)) = tests_go (Faults faults.Assert) (below_message message f.stack) tt
   contract_call_goes (Some (calls.Assume message)) = tests_go Assumes (below_message message f.stack) tt
@@ -209,6 +228,9 @@ module _ (unit : MethodUnit) (i : Instr) (f : Frame) (heap : Heap) where
   effects_of_go ops.Length = array_length_goes (Next ∷ []) unit i f heap (0, refl) f.stack
   effects_of_go (ops.LoadElem place) = loads_go (Next ∷ []) unit i f heap (0, refl) place f.stack
   effects_of_go (ops.StoreElem place) = stores_go (Next ∷ []) unit i f heap (0, refl) place f.stack
+  effects_of_go (ops.LoadAddr number) = takes_address_goes (Next ∷ []) unit i f heap (0, refl) (array_place number) f.stack
+  effects_of_go (ops.LoadInd place) = loads_through_go (Next ∷ []) unit i f heap (0, refl) place f.stack
+  effects_of_go (ops.StoreInd place) = stores_through_go (Next ∷ []) unit i f heap (0, refl) place f.stack
 
   has_goes : (ats : List ℕ) (es : List Effect) (effect : Effect) → EachGoes ats es → HasEffect es effect → GoesToOne ats effect
   has_goes ats [] effect go has = absurd has

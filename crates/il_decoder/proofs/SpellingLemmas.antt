@@ -7,7 +7,7 @@ use Rattle.std.proofs.lemmas.Int.{ints, of_z-to_z}
 use Rattle.std.proofs.lemmas.List.{length-append, length-map}
 use Rattle.byteorder.specs.Endian.{little_bytes}
 use Rattle.cc_base.proofs.ByteLemmas.{length-little_bytes}
-use Rattle.cil_model.specs.Opcodes.{Form, variable_form, constant_form, test_of, branch_form, operator_of, object_form, short_form, long_form, near, far, operator_form, target}
+use Rattle.cil_model.specs.Opcodes.{Form, variable_form, constant_form, test_of, branch_form, address_form, operator_of, object_form, short_form, long_form, near, far, operator_form, target}
 use Rattle.cil_model.specs.Spells.{SpellsForm, SpellsSwitch, Spells, offset_bytes}
 use Rattle.cil_model.specs.declared.instruction.BinOp.{BinOp}
 use Rattle.cil_model.specs.declared.instruction.Instr.{Instr}
@@ -75,12 +75,18 @@ constant_back b =
     (row P b 0x20 _ _ (λ e. λ next n h. word_behind _ _ _ _ (sym e) (of_z-to_z w32 n h))
     (row P b 0x25 _ _ (here 0) (row P b 0x26 _ _ (here 0) (row P b 0x28 _ _ (here 4) (row P b 0x2a _ _ (here 0) tt))))))
 
+address_back : (b : ℕ) → Back (b ∷ []) (address_form b)
+unfolding address_form
+address_back b =
+    let P = Back (b ∷ []) in
+    row P b 0x47 _ _ (here 0) (row P b 0x4a _ _ (here 0) (row P b 0x52 _ _ (here 0) (row P b 0x54 _ _ (here 0) tt)))
+
 object_back : (b : ℕ) → Back (b ∷ []) (object_form b)
 unfolding object_form
 object_back b =
     let P = Back (b ∷ []) in
     row P b 0x65 _ _ (here 0) (row P b 0x66 _ _ (here 0) (row P b 0x69 _ _ (here 0) (row P b 0x72 _ _ (here 4) (row P b 0x8d _ _ (here 4)
-    (row P b 0x8e _ _ (here 0) (row P b 0x91 _ _ (here 0) (row P b 0x94 _ _ (here 0) (row P b 0x9c _ _ (here 0) (row P b 0x9e _ _ (here 0) tt)))))))))
+    (row P b 0x8e _ _ (here 0) (row P b 0x8f _ _ (here 4) (row P b 0x91 _ _ (here 0) (row P b 0x94 _ _ (here 0) (row P b 0x9c _ _ (here 0) (row P b 0x9e _ _ (here 0) tt))))))))))
 
 -- One case of a table of tests or of operators, and then the others.
 case_of : {X : Type 0} (P : Option X → Type 0) (b k : ℕ) (here others : Option X) → (b ≡ k → P here) → P others → P (cond (eqb b k) here others)
@@ -140,7 +146,8 @@ short_back b =
     rows_up_to P b 0x14 _ _ (λ h. variable_back b)
     (λ h. rows_up_to P b 0x2a _ _ (λ h. constant_back b)
     (λ above. rows_up_to P b 0x44 _ _ (λ h. branch_back b (omega arith))
-    (λ h. rows P b 0x65 0x9e _ _ (λ l h. object_back b) (operator_back (b ∷ []) (operator_of b) (has_opcode b)))))
+    (λ h. rows_up_to P b 0x54 _ _ (λ h. address_back b)
+    (λ h. rows P b 0x65 0x9e _ _ (λ l h. object_back b) (operator_back (b ∷ []) (operator_of b) (has_opcode b))))))
 
 long_back : (b : ℕ) → Back (0xfe ∷ b ∷ []) (long_form b)
 unfolding long_form numbered_bytes variable_bytes

@@ -123,6 +123,11 @@ op_bytes next size (ops.LoadElem places.Bools) = 0x91 ∷ []
 op_bytes next size (ops.LoadElem place) = 0x94 ∷ []
 op_bytes next size (ops.StoreElem places.Bools) = 0x9c ∷ []
 op_bytes next size (ops.StoreElem place) = 0x9e ∷ []
+op_bytes next size (ops.LoadAddr token) = 0x8f ∷ little_bytes 4 token
+op_bytes next size (ops.LoadInd places.Bools) = 0x47 ∷ []
+op_bytes next size (ops.LoadInd place) = 0x4a ∷ []
+op_bytes next size (ops.StoreInd places.Bools) = 0x52 ∷ []
+op_bytes next size (ops.StoreInd place) = 0x54 ∷ []
 
 -- The bytes of an instruction: where some bytes spell it, these do, and no others.
 abbrev pub spelled : Instr → List ℕ

@@ -64,6 +64,11 @@ op_text size (ops.LoadElem places.Bools) = codes "ldelem.u1"
 op_text size (ops.LoadElem place) = codes "ldelem.i4"
 op_text size (ops.StoreElem places.Bools) = codes "stelem.i1"
 op_text size (ops.StoreElem place) = codes "stelem.i4"
+op_text size (ops.LoadAddr token) = token_text (codes "ldelema") token
+op_text size (ops.LoadInd places.Bools) = codes "ldind.u1"
+op_text size (ops.LoadInd place) = codes "ldind.i4"
+op_text size (ops.StoreInd places.Bools) = codes "stind.i1"
+op_text size (ops.StoreInd place) = codes "stind.i4"
 
 abbrev pub instr_text : Instr → List ℕ
 instr_text i = op_text i.size i.op

@@ -1,7 +1,7 @@
 //! Opcodes by groups, in their order (ECMA-335 III).
 
 ghost use Rattle.std.specs.Prelude.{◌≡◌, ◌+◌, ◌^◌, ◌<◌, ◌≤◌, Some, None};
-ghost use Rattle.cil_model.specs.Opcodes.{variable_form, constant_form, test_of, branch_form, operator_of, object_form, short_form};
+ghost use Rattle.cil_model.specs.Opcodes.{address_form, variable_form, constant_form, test_of, branch_form, operator_of, object_form, short_form};
 ghost use Rattle.il_decoder.specs.Decoding.{by_form, two_byte};
 
 use crate::fault::IlFault;
@@ -117,6 +117,20 @@ fn operator_of(opcode: u8) -> Option<BinOp>
     }
 }
 
+/// Loads and stores through addresses of items, none of which has an operand.
+#[tactic(auto, unfolding(cil_model::specs::Opcodes::address_form))]
+fn through_address(at: u32, opcode: u8, rest: &[u8]) -> Result<Operation, IlFault>
+    ensures { result ≡ by_form at 1 opcode (address_form opcode) rest.now }
+{
+    match opcode {
+        0x47 => Ok((Op::LoadInd(Place::Bools), 1)),
+        0x4a => Ok((Op::LoadInd(Place::Ints), 1)),
+        0x52 => Ok((Op::StoreInd(Place::Bools), 1)),
+        0x54 => Ok((Op::StoreInd(Place::Ints), 1)),
+        _ => Err(IlFault::Opcode(at, u16::from(opcode))),
+    }
+}
+
 /// The operators of one number, strings and arrays.
 #[tactic(auto, unfolding(cil_model::specs::Opcodes::object_form))]
 fn object(at: u32, opcode: u8, rest: &[u8]) -> Result<Operation, IlFault>
@@ -129,6 +143,7 @@ fn object(at: u32, opcode: u8, rest: &[u8]) -> Result<Operation, IlFault>
         0x72 => Ok((Op::Text(u32_operand(at, rest)?), 5)),
         0x8d => Ok((Op::NewArray(u32_operand(at, rest)?), 5)),
         0x8e => Ok((Op::Length, 1)),
+        0x8f => Ok((Op::LoadAddr(u32_operand(at, rest)?), 5)),
         0x91 => Ok((Op::LoadElem(Place::Bools), 1)),
         0x94 => Ok((Op::LoadElem(Place::Ints), 1)),
         0x9c => Ok((Op::StoreElem(Place::Bools), 1)),
@@ -147,6 +162,7 @@ pub(crate) fn one_byte(at: u32, opcode: u8, rest: &[u8]) -> Result<Operation, Il
         0x00..=0x14 => variable(at, opcode, rest),
         0x15..=0x2a => constant(at, opcode, rest),
         0x2b..=0x44 => branch(at, opcode, rest),
+        0x45..=0x54 => through_address(at, opcode, rest),
         0x65..=0x9e => object(at, opcode, rest),
         _ => match operator_of(opcode) {
             Some(operator) => Ok((Op::Bin(operator), 1)),

@@ -217,6 +217,11 @@ fn put_spelling(out: &mut Vec<u8>, instr: &Instr) -> Result<(), NoMemory>
         Op::LoadElem(_) => put_opcode(out, 0x94),
         Op::StoreElem(Place::Bools) => put_opcode(out, 0x9c),
         Op::StoreElem(_) => put_opcode(out, 0x9e),
+        Op::LoadAddr(token) => put_word(out, 0x8f, *token),
+        Op::LoadInd(Place::Bools) => put_opcode(out, 0x47),
+        Op::LoadInd(_) => put_opcode(out, 0x4a),
+        Op::StoreInd(Place::Bools) => put_opcode(out, 0x52),
+        Op::StoreInd(_) => put_opcode(out, 0x54),
     }
 }
 

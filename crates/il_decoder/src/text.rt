@@ -126,6 +126,11 @@ fn put_text(alloc: Global, out: &mut Vec<u8>, instr: &Instr) -> Result<(), NoMem
         Op::LoadElem(_) => out.extend_from_slice(b"ldelem.i4"),
         Op::StoreElem(Place::Bools) => out.extend_from_slice(b"stelem.i1"),
         Op::StoreElem(_) => out.extend_from_slice(b"stelem.i4"),
+        Op::LoadAddr(token) => put_token(alloc, out, b"ldelema", *token),
+        Op::LoadInd(Place::Bools) => out.extend_from_slice(b"ldind.u1"),
+        Op::LoadInd(_) => out.extend_from_slice(b"ldind.i4"),
+        Op::StoreInd(Place::Bools) => out.extend_from_slice(b"stind.i1"),
+        Op::StoreInd(_) => out.extend_from_slice(b"stind.i4"),
     }
 }
 

@@ -4,7 +4,8 @@ use Rattle.cil_model.specs.Values.{IsHeap, IsValue, KeepsForms}
 use Rattle.machine_points.specs.declared.point.Point.{Point}
 
 -- The variables and the stack have values of the heap, and the arguments at the entry values of the heap there: numbers
--- are int32, and what is an array is there. Each array of the heap at the entry has kept its type and its length.
+-- are int32, what is an array is there, and what is an address is one of an item there. Each array of the heap at the
+-- entry has kept its type and its length.
 pub record HasMachineValues (p : Point) : Type 0 where
   pub heap : IsHeap p.heap
   pub args : AllByRecursion (IsValue p.heap) p.frame.args

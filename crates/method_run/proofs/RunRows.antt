@@ -109,6 +109,46 @@ null_used : run_answer (alone stores_2) (codes "null" ∷ []) 9 ≡ Line 8 (code
 unfolding digits argument_of int_of_word run_answer outcome last_state int_wrap label hex signature_text
 null_used = refl
 
+-- ---- addresses
+
+-- int AddTo(int[] a, int i, int x) { a[i] += x; return a[i]; }
+abbrev add_to : MethodUnit
+add_to =
+    method (codes "Demo.Calc::AddTo") places.Int (places.Ints ∷ places.Int ∷ places.Int ∷ []) [] [] 0
+    (0x02 ∷ 0x03 ∷ 0x8f ∷ 0x02 ∷ 0x00 ∷ 0x00 ∷ 0x00 ∷ 0x25 ∷ 0x4a ∷ 0x04 ∷ 0x58 ∷ 0x54 ∷ 0x02 ∷ 0x03 ∷ 0x94 ∷ 0x2a ∷ [])
+    ((1, ops.LoadArg 0) ∷ (1, ops.LoadArg 1) ∷ (5, ops.LoadAddr 2) ∷ (1, ops.Dup) ∷ (1, ops.LoadInd places.Ints) ∷ (1, ops.LoadArg 2)
+    ∷ (1, ops.Bin operators.Add) ∷ (1, ops.StoreInd places.Ints)
+    ∷ (1, ops.LoadArg 0) ∷ (1, ops.LoadArg 1) ∷ (1, ops.LoadElem places.Ints) ∷ (1, ops.Return) ∷ [])
+
+returned_sum : run_answer (alone add_to) (codes "[5,7]" ∷ codes "1" ∷ codes "3" ∷ []) 12 ≡ Line 0 (codes "returned 10\n")
+unfolding digits argument_of int_of_word run_answer outcome last_state int_wrap
+returned_sum = refl
+
+-- Null comes before the index.
+address_in_null : run_answer (alone add_to) (codes "null" ∷ codes "-1" ∷ codes "3" ∷ []) 9 ≡ Line 8 (codes "fault null at IL_0002 in Demo.Calc::AddTo(int32[],int32,int32)\n")
+unfolding digits argument_of int_of_word run_answer outcome last_state int_wrap label hex signature_text
+address_in_null = refl
+
+address_below : run_answer (alone add_to) (codes "[5,7]" ∷ codes "-1" ∷ codes "3" ∷ []) 9 ≡ Line 8 (codes "fault lower bound at IL_0002 in Demo.Calc::AddTo(int32[],int32,int32)\n")
+unfolding digits argument_of int_of_word run_answer outcome last_state int_wrap label hex signature_text
+address_below = refl
+
+address_beyond : run_answer (alone add_to) (codes "[5,7]" ∷ codes "2" ∷ codes "3" ∷ []) 9 ≡ Line 8 (codes "fault upper bound at IL_0002 in Demo.Calc::AddTo(int32[],int32,int32)\n")
+unfolding digits argument_of int_of_word run_answer outcome last_state int_wrap label hex signature_text
+address_beyond = refl
+
+-- bool[] Toggle(bool[] a) { a[0] ^= true; return a; }, as the runtime has it.
+abbrev toggles : MethodUnit
+toggles =
+    method (codes "Demo.Calc::Toggle") places.Bools (places.Bools ∷ []) [] [] 0
+    (0x02 ∷ 0x16 ∷ 0x8f ∷ 0x01 ∷ 0x00 ∷ 0x00 ∷ 0x00 ∷ 0x25 ∷ 0x47 ∷ 0x17 ∷ 0x61 ∷ 0x52 ∷ 0x02 ∷ 0x2a ∷ [])
+    ((1, ops.LoadArg 0) ∷ (1, ops.Const (pos 0)) ∷ (5, ops.LoadAddr 1) ∷ (1, ops.Dup) ∷ (1, ops.LoadInd places.Bools) ∷ (1, ops.Const (pos 1))
+    ∷ (1, ops.Bin operators.Xor) ∷ (1, ops.StoreInd places.Bools) ∷ (1, ops.LoadArg 0) ∷ (1, ops.Return) ∷ [])
+
+returned_toggled : run_answer (alone toggles) (codes "[false,true]" ∷ []) 10 ≡ Line 0 (codes "returned [true,true]\n")
+unfolding digits argument_of int_of_word run_answer outcome last_state int_wrap
+returned_toggled = refl
+
 -- ---- contracts
 
 -- void As(bool b) { Contract.Assume(b); }

@@ -25,7 +25,7 @@ fn put_value(
             Some(items) => append_items(alloc, line, place, items),
             None => Ok(()),
         },
-        Value::Native(_) | Value::Text => Ok(()),
+        Value::Native(_) | Value::Addr(..) | Value::Text => Ok(()),
     }
 }
 

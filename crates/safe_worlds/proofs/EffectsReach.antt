@@ -1,13 +1,13 @@
 -- What an instruction does to its own frame keeps within the frame's reach: it has no array that it could not come to
 -- before, or that is not new, and items change in arrays that it could come to alone.
-use Rattle.std.proofs.Common.{◌≡◌, ℕ, zero, suc, ◌+◌, ◌<◌, ◌≤◌, ℤ, pos, int_lt, int_le, int_eq, unsigned_abs, Bool, true, false, not, List, [], ◌∷◌, ◌++◌, length, slice_get, slice_set, Option, Some, None, option_map, Result, Ok, Err, refl, sym, ap, subst, arith, inl, inr}
+use Rattle.std.proofs.Common.{◌≡◌, ℕ, zero, suc, ◌+◌, ◌<◌, ◌≤◌, ℤ, pos, int_lt, int_le, int_eq, nat_lt, if◌then◌else◌, unsigned_abs, Bool, true, false, not, List, [], ◌∷◌, ◌++◌, length, slice_get, slice_set, Option, Some, None, option_map, Result, Ok, Err, refl, sym, ap, subst, arith, inl, inr}
 use Rattle.std.specs.List.{AllByRecursion}
 use Rattle.std.specs.Option.{option_and_then}
 use Rattle.std.proofs.lemmas.Bool.{cond_both}
 use Rattle.std.proofs.lemmas.Option.{cond_some, none-some, same_Some}
 use Rattle.cil_model.specs.Arithmetic.{operated, operated_one, truth, unsigned}
 use Rattle.cil_model.specs.Comparisons.{comparison_of, comparison_value, compares_values, is_true, number_of, pushed_comparison}
-use Rattle.cil_model.specs.Effects.{Effect, GoesOn, Faults, Assumes, HasEffect, arithmetic, array_length, at_index, below_message, binary, branches, branches_by, changes, comparison, contract_call, converts, duplicates, effects, effects_of, gives, goes_to, item_of, item_value, loads, makes, makes_number, new_array, of_place, pops, pushes, stored, stores, stores_arg, stores_local, switches, switches_to, tests_condition, with_args, with_item, with_locals, zeros}
+use Rattle.cil_model.specs.Effects.{Effect, GoesOn, Faults, Assumes, HasEffect, addresses, arithmetic, array_length, at_index, below_message, binary, branches, branches_by, changes, comparison, contract_call, converts, duplicates, effects, effects_of, gives, goes_to, item_of, item_value, loads, loads_through, makes, makes_number, new_array, of_place, pops, pushes, stored, stores, stores_arg, stores_local, stores_through, switches, switches_to, takes_address, tests_condition, with_args, with_item, with_locals, zeros}
 use Rattle.cil_model.specs.UnitCalls.{array_place, unit_call}
 use Rattle.cil_model.specs.Values.{Heap, has_array, put, put_all, same_place, with_first}
 use Rattle.cil_model.specs.declared.instruction.BinOp.{BinOp}
@@ -24,7 +24,7 @@ use Rattle.cil_model.specs.declared.machine.FaultKind.{FaultKind}
 use Rattle.cil_model.specs.declared.machine.FaultKind.TheVariants as faults
 use Rattle.cil_model.specs.declared.machine.Frame.{Frame}
 use Rattle.cil_model.specs.declared.machine.Value.{Value}
-use Rattle.cil_model.specs.declared.machine.Value.TheVariants.{Int, Native, Null, Array, Text}
+use Rattle.cil_model.specs.declared.machine.Value.TheVariants.{Int, Native, Null, Array, Addr, Text}
 use Rattle.cil_model.specs.declared.place.Place.{Place}
 use Rattle.cil_model.specs.declared.place.Place.TheVariants as places
 use Rattle.cil_model.specs.declared.unit.Unit.{Unit as MethodUnit}
@@ -299,16 +299,31 @@ module _ (entry : Entry) (unit : MethodUnit) (i : Instr) (f : Frame) (heap : Hea
       subst (IsInReach entry) (sym is) tt)
   array_length_keep _ are = tt
 
+  item_keep : (rest : List Value) (item : Option ℤ) → Are rest → Keep (pushes i f heap rest (option_map Int item))
+  item_keep rest None are = tt
+  item_keep rest (Some n) are = goes (i.at + i.size) (Int n ∷ rest) (tt, are)
+
   loads_keep : (place : Place) (stack : List Value) → Are stack → Keep (loads place i f heap stack)
   loads_keep place (Int n ∷ Null ∷ rest) are = (tt, tt)
   loads_keep place (Int n ∷ Array a ∷ rest) are =
       of_place_keep place (slice_get heap a) (λ cell. at_index cell n (pushes i f heap rest (item_value cell n)))
       (λ cell. at_index_keep cell n (pushes i f heap rest (item_value cell n))
-      (pushes_keep rest (item_value cell n) are.1.1
-      (λ v e.
-      let (item, found, is) = map_from Int (slice_get cell.items (unsigned_abs n)) v e in
-      subst (IsInReach entry) (sym is) tt)))
+      (item_keep rest (slice_get cell.items (unsigned_abs n)) are.1.1))
   loads_keep place _ are = tt
+
+  -- An item of an array in reach is replaced.
+  stored_keep : (at a n : ℕ) (cell : ArrayCell) (item : ℤ) (rest : List Value) → IsInReach entry (Array a) → Are rest
+      → Keep (goes_to at f (with_item heap a cell n item) rest)
+  stored_keep at a n cell item rest is are = (
+    record {
+      same = refl;
+      args = args;
+      locals = locals;
+      stack = are;
+      items = λ b below apart. set_apart heap a b _ (λ same. apart (subst (λ (k : ℕ). IsInReach entry (Array k)) same is));
+    },
+    tt,
+  )
 
   stores_keep : (place : Place) (stack : List Value) → Are stack → Keep (stores place i f heap stack)
   stores_keep place (Int v ∷ Int n ∷ Null ∷ rest) are = (tt, tt)
@@ -316,21 +331,42 @@ module _ (entry : Entry) (unit : MethodUnit) (i : Instr) (f : Frame) (heap : Hea
       of_place_keep place (slice_get heap a)
       (λ cell. at_index cell n
       (goes_to (i.at + i.size) f (with_item heap a cell (unsigned_abs n) (item_of place v)) rest))
-      (λ cell.
-      let after = with_item heap a cell (unsigned_abs n) (item_of place v) in
-      at_index_keep cell n (goes_to (i.at + i.size) f after rest) (
-        record {
-          same = refl;
-          args = args;
-          locals = locals;
-          stack = are.1.1.1;
-          items =
-              λ b below apart. set_apart heap a b _
-              (λ same. apart (subst (λ (k : ℕ). IsInReach entry (Array k)) same are.1.1.0));
-        },
-        tt,
-      ))
+      (λ cell. at_index_keep cell n _
+      (stored_keep (i.at + i.size) a (unsigned_abs n) cell (item_of place v) rest are.1.1.0 are.1.1.1))
   stores_keep place _ are = tt
+
+  -- ---- addresses: an address is in reach where its array is
+
+  addresses_keep : (place : Place) (stack : List Value) → Are stack → Keep (addresses place i f heap stack)
+  addresses_keep place (Int n ∷ Null ∷ rest) are = (tt, tt)
+  addresses_keep place (Int n ∷ Array a ∷ rest) are =
+      of_place_keep place (slice_get heap a)
+      (λ cell. at_index cell n (goes_to (i.at + i.size) f heap (Addr a (unsigned_abs n) ∷ rest)))
+      (λ cell. at_index_keep cell n _
+      (goes (i.at + i.size) (Addr a (unsigned_abs n) ∷ rest) (are.1.0, are.1.1)))
+  addresses_keep place _ are = tt
+
+  takes_address_keep : (place : Option Place) (stack : List Value) → Are stack
+      → Keep (takes_address place i f heap stack)
+  takes_address_keep None stack are = tt
+  takes_address_keep (Some place) stack are = addresses_keep place stack are
+
+  loads_through_keep : (place : Place) (stack : List Value) → Are stack → Keep (loads_through place i f heap stack)
+  loads_through_keep place (Addr a n ∷ rest) are =
+      of_place_keep place (slice_get heap a)
+      (λ cell. pushes i f heap rest (option_map Int (slice_get cell.items n)))
+      (λ cell. item_keep rest (slice_get cell.items n) are.1)
+  loads_through_keep place _ are = tt
+
+  stores_through_keep : (place : Place) (stack : List Value) → Are stack → Keep (stores_through place i f heap stack)
+  stores_through_keep place (Int v ∷ Addr a n ∷ rest) are =
+      of_place_keep place (slice_get heap a)
+      (λ cell.
+      if nat_lt n (length cell.items)
+      then goes_to (i.at + i.size) f (with_item heap a cell n (item_of place v)) rest else [])
+      (λ cell. cond_both (nat_lt n (length cell.items)) _ _ Keep
+      (λ within. stored_keep (i.at + i.size) a n cell (item_of place v) rest are.1.0 are.1.1) (λ beyond. tt))
+  stores_through_keep place _ are = tt
 
   -- ---- Assert and Assume
 
@@ -375,6 +411,9 @@ module _ (entry : Entry) (unit : MethodUnit) (i : Instr) (f : Frame) (heap : Hea
   each_keeps ops.Length are = array_length_keep f.stack are
   each_keeps (ops.LoadElem place) are = loads_keep place f.stack are
   each_keeps (ops.StoreElem place) are = stores_keep place f.stack are
+  each_keeps (ops.LoadAddr number) are = takes_address_keep (array_place number) f.stack are
+  each_keeps (ops.LoadInd place) are = loads_through_keep place f.stack are
+  each_keeps (ops.StoreInd place) are = stores_through_keep place f.stack are
 
   this_keeps : (es : List Effect) (effect : Effect) → Keep es → HasEffect es effect → EffectInReach entry f heap effect
   this_keeps [] effect keep has = absurd has

@@ -9,7 +9,7 @@ use Rattle.cil_model.specs.Configs.{IsFrameOf}
 use Rattle.cil_model.specs.Effects.{Effect, GoesOn, Faults, Assumes, FindsNoRoom}
 use Rattle.cil_model.specs.Runs.{CallsBy, EffectRow, LocalRuns, LocalStep, MayBegin, Row, StepsTo, config_after, entry_config}
 use Rattle.cil_model.specs.UnitCalls.{unit_call}
-use Rattle.cil_model.specs.Values.{FitsPlace, Heap, IsHeap, IsValue, KeepsForms, put, zero_of}
+use Rattle.cil_model.specs.Values.{FitPlaces, FitsPlace, Heap, IsHeap, IsValue, KeepsForms, put, zero_of}
 use Rattle.cil_model.specs.Worlds.{info_of}
 use Rattle.cil_model.specs.declared.instruction.Instr.{Instr}
 use Rattle.cil_model.specs.declared.instruction.Op.{Op}
@@ -18,7 +18,7 @@ use Rattle.cil_model.specs.declared.machine.Config.{Config}
 use Rattle.cil_model.specs.declared.machine.Config.TheVariants as configs
 use Rattle.cil_model.specs.declared.machine.Frame.{Frame}
 use Rattle.cil_model.specs.declared.machine.Value.{Value}
-use Rattle.cil_model.specs.declared.machine.Value.TheVariants.{Array}
+use Rattle.cil_model.specs.declared.machine.Value.TheVariants.{Array, Addr}
 use Rattle.cil_model.specs.declared.place.Place.{Place}
 use Rattle.cil_model.specs.declared.place.Place.TheVariants as places
 use Rattle.cil_model.specs.declared.unit.CalleeInfo.{CalleeInfo}
@@ -50,6 +50,9 @@ passed_on : (entry : Entry) (heap : Heap) (args : List Value) (v : Value) → le
 passed_on entry heap args (Array a) more are (inl contained) =
     each_contained (IsInReach entry) args (Array a) are contained
 passed_on entry heap args (Array a) more are (inr new) = inr (omega arith)
+passed_on entry heap args (Addr a n) more are (inl contained) =
+    each_contained (IsInReach entry) args (Array a) are contained
+passed_on entry heap args (Addr a n) more are (inr new) = inr (omega arith)
 passed_on entry heap args _ more are is = tt
 
 -- An array that was there and was not passed is out of reach.
@@ -226,19 +229,29 @@ steps unit entry start zero c makes is same = subst (ConfigUnderWay unit entry) 
 steps unit entry start (suc n) c makes is (mid, before, step) =
     one_step unit entry mid c makes (steps unit entry start n mid makes is before) step
 
--- Each argument was passed.
-passed_from : (heap : Heap) (args vs : List Value) → ((v : Value) → Contains vs v → Contains args v)
+-- Each argument was passed. None is an address, since no place holds one.
+passed_from : (heap : Heap) (args : List Value) (types : List Place) (vs : List Value) → FitPlaces heap types vs
+    → ((v : Value) → Contains vs v → Contains args v)
     → AllByRecursion (λ v. IsPassedOrNew heap args (Some v)) vs
-passed_from heap args [] within = tt
-passed_from heap args (v ∷ vs) within =
-    (one v (λ u. within u), passed_from heap args vs (λ u contained. within u (later u contained)))
+passed_from heap args [] [] fit within = tt
+passed_from heap args (place ∷ types) (v ∷ vs) fit within = (
+  one place v fit.0 (within v (zero, omega arith, refl)),
+  passed_from heap args types vs fit.1 (λ u contained. within u (later u contained)),
+)
   where
-    one : (v : Value) → ((u : Value) → Contains (v ∷ vs) u → Contains args u) → IsPassedOrNew heap args (Some v)
-    one (Array a) among = inl (among (Array a) (zero, omega arith, refl))
-    one _ among = tt
+    one : (place : Place) (v : Value) → FitsPlace heap place v → Contains args v → IsPassedOrNew heap args (Some v)
+    one place (Array a) fits among = inl among
+    one places.Void (Addr a n) fits among = absurd fits
+    one places.Bool (Addr a n) fits among = absurd fits
+    one places.Int (Addr a n) fits among = absurd fits
+    one places.Bools (Addr a n) fits among = absurd fits
+    one places.Ints (Addr a n) fits among = absurd fits
+    one place _ fits among = tt
 
     later : (u : Value) → Contains vs u → Contains (v ∷ vs) u
     later u (k, below, same) = (suc k, omega arith, same)
+passed_from heap args [] (v ∷ vs) fit within = absurd fit
+passed_from heap args (place ∷ types) [] fit within = absurd fit
 
 nothing_held : (entry : Entry) (types : List Place) → AllByRecursion (IsInReach entry) (map zero_of types)
 nothing_held entry [] = tt
@@ -255,7 +268,7 @@ begun unit entry makes begins = record {
   heap_is = begins.heap_is;
   frame = entry_frame_is unit entry.unit entry.args entry.heap makes.locals begins.heap_is begins.fit;
   reach = record {
-    args = passed_from entry.heap entry.args entry.args (λ v contained. contained);
+    args = passed_from entry.heap entry.args unit.args entry.args begins.fit (λ v contained. contained);
     locals = nothing_held entry unit.locals;
     stack = tt;
     keeps = record { forms = keeps_itself entry.heap; items = λ a below apart. refl };

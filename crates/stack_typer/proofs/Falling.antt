@@ -6,7 +6,7 @@ use Rattle.cil_model.specs.Kinds.{one_if}
 use Rattle.cil_model.specs.Passes.{Stacks, merged_kind, with_kind, merged, arrived, come_to, come_to_all}
 use Rattle.cil_model.specs.declared.instruction.Instr.{Instr}
 use Rattle.cil_model.specs.declared.place.Kind.{Kind}
-use Rattle.cil_model.specs.declared.place.Kind.TheVariants.{Int, Native, Ints, Bools, NullRef, Text}
+use Rattle.cil_model.specs.declared.place.Kind.TheVariants.{Int, Native, Ints, Bools, NullRef, Text, AddrInts, AddrBools}
 use Rattle.stack_typer.specs.Room.{is_null, nulls, changes_left, all_changes_left}
 
 abbrev pub Falls : {X : Type 0} → (X → ℕ) → X → X → Type 0
@@ -22,6 +22,8 @@ kind_falls : (a b kind : Kind) → merged_kind a b ≡ Some kind → Falls (λ k
 kind_falls Int Int kind e = inl (cc)
 kind_falls Native Native kind e = inl (cc)
 kind_falls Text Text kind e = inl (cc)
+kind_falls AddrInts AddrInts kind e = inl (cc)
+kind_falls AddrBools AddrBools kind e = inl (cc)
 kind_falls Ints Ints kind e = inl (cc)
 kind_falls Bools Bools kind e = inl (cc)
 kind_falls NullRef NullRef kind e = inl (cc)

@@ -7,8 +7,8 @@ use Rattle.std.proofs.lemmas.Iterator.Adapters.{option_map_id}
 use Rattle.cil_model.specs.Kinds.{one_if}
 use Rattle.cil_model.specs.Passes.{merged_kind, with_kind, merged}
 use Rattle.cil_model.specs.declared.place.Kind.{Kind}
-use Rattle.cil_model.specs.declared.place.Kind.TheVariants.{Int, Native, Ints, Bools, NullRef, Text}
-use Rattle.stack_typer.specs.Room.{is_null, nulls}
+use Rattle.cil_model.specs.declared.place.Kind.TheVariants.{Int, Native, Ints, Bools, NullRef, Text, AddrInts, AddrBools}
+use Rattle.stack_typer.specs.Room.{changed_kind, is_null, nulls}
 
 with_none : (k : Option Kind) → with_kind k None ≡ None
 with_none None = refl
@@ -30,19 +30,32 @@ pub ruleset merges_rules = (merged-lengths, with_some)
 
 -- ---- merging in place
 
--- A kind changes by merging only from null to an array.
-changed_kind : (a b kind : Kind) → merged_kind a b ≡ Some kind → kind ≢ a → (is_null a ≡ true) × (is_null kind ≡ false)
-changed_kind Int Int kind e h = absurd (h (cc))
-changed_kind Native Native kind e h = absurd (h (cc))
-changed_kind Text Text kind e h = absurd (h (cc))
-changed_kind Ints Ints kind e h = absurd (h (cc))
-changed_kind Bools Bools kind e h = absurd (h (cc))
-changed_kind NullRef NullRef kind e h = absurd (h (cc))
-changed_kind Ints NullRef kind e h = absurd (h (cc))
-changed_kind Bools NullRef kind e h = absurd (h (cc))
-changed_kind NullRef Ints kind e h = (refl, let k : Ints ≡ kind = cc in ap is_null (sym k))
-changed_kind NullRef Bools kind e h = (refl, let k : Bools ≡ kind = cc in ap is_null (sym k))
-changed_kind _ _ kind e h = absurd (cc)
+-- A kind changes only from null to an array, and to what it merges to.
+becomes : (a b kind : Kind) → changed_kind a b ≡ Some kind → (merged_kind a b ≡ Some kind) × (is_null a ≡ true) × (is_null kind ≡ false)
+becomes NullRef Ints kind e = (e, refl, let k : Ints ≡ kind = cc in ap is_null (sym k))
+becomes NullRef Bools kind e = (e, refl, let k : Bools ≡ kind = cc in ap is_null (sym k))
+becomes _ _ kind e = absurd (cc)
+
+-- Another kind that merges stays.
+stays : (a b : Kind) → changed_kind a b ≡ None → is_some (merged_kind a b) ≡ true → merged_kind a b ≡ Some a
+stays Int Int e merges = refl
+stays Native Native e merges = refl
+stays Text Text e merges = refl
+stays AddrInts AddrInts e merges = refl
+stays AddrBools AddrBools e merges = refl
+stays Ints Ints e merges = refl
+stays Bools Bools e merges = refl
+stays NullRef NullRef e merges = refl
+stays Ints NullRef e merges = refl
+stays Bools NullRef e merges = refl
+stays NullRef Ints e merges = absurd (cc)
+stays NullRef Bools e merges = absurd (cc)
+stays _ _ e merges = absurd (cc)
+
+-- What puts a stack together has a kind.
+first_there : (kind : Option Kind) (kinds : Option (List Kind)) → is_some (with_kind kind kinds) ≡ true → is_some kind ≡ true
+first_there (Some kind) kinds e = refl
+first_there None kinds e = absurd (cc)
 
 fewer_nulls : (stack : List Kind) (i : ℕ) (kind d : Kind) → i < length stack → is_null (get_or stack i d) ≡ true → is_null kind ≡ false → nulls (set stack i kind) < nulls stack
 fewer_nulls stack i kind d inside was now =
@@ -109,18 +122,18 @@ here old before stack changed i d e kind inside this h =
     }
 
 -- All of them merge.
-pub merging_here : (old before stack : List Kind) (changed : Bool) (i : ℕ) (d e : Kind) → i < length before → merged_kind (get_or before i d) (get_or stack i e) ≡ None
-    → AreMerging old before stack i changed → ⊥
-merging_here old before stack changed i d e inside this h =
+merges_here : (old before stack : List Kind) (changed : Bool) (i : ℕ) (d e : Kind) → i < length before → AreMerging old before stack i changed
+    → is_some (merged_kind (get_or before i d) (get_or stack i e)) ≡ true
+merges_here old before stack changed i d e inside h =
     let p : drop i before ≡ get_or before i d ∷ drop (i + 1) before = drop_more before i d inside in
     let q : drop i stack ≡ get_or stack i e ∷ drop (i + 1) stack = drop_more stack i e (omega (arith, h.same_length)) in
-    let m = rw (p, q, this) at h.merges in
-    cc
+    first_there (merged_kind (get_or before i d) (get_or stack i e)) (merged (drop (i + 1) before) (drop (i + 1) stack)) (rw (p, q) at h.merges)
 
 -- The kind there stays.
 pub merging_keeps : (old before stack : List Kind) (changed : Bool) (i : ℕ) (d e : Kind) → i < length before
-    → merged_kind (get_or before i d) (get_or stack i e) ≡ Some (get_or before i d) → AreMerging old before stack i changed → AreMerging old before stack (i + 1) changed
-merging_keeps old before stack changed i d e inside this h =
+    → changed_kind (get_or before i d) (get_or stack i e) ≡ None → AreMerging old before stack i changed → AreMerging old before stack (i + 1) changed
+merging_keeps old before stack changed i d e inside none h =
+    let this = stays (get_or before i d) (get_or stack i e) none (merges_here old before stack changed i d e inside h) in
     let k = here old before stack changed i d e (get_or before i d) inside this h in
     record {
       same_length = h.same_length;
@@ -137,11 +150,11 @@ no_more old before true same fewer = omega (arith, fewer refl)
 
 -- The kind there changes.
 pub merging_changes : (old before stack : List Kind) (changed : Bool) (i : ℕ) (d e kind : Kind) → i < length before
-    → merged_kind (get_or before i d) (get_or stack i e) ≡ Some kind → kind ≢ get_or before i d → AreMerging old before stack i changed
+    → changed_kind (get_or before i d) (get_or stack i e) ≡ Some kind → AreMerging old before stack i changed
     → AreMerging old (set before i kind) stack (i + 1) true
-merging_changes old before stack changed i d e kind inside this other h =
-    let k = here old before stack changed i d e kind inside this h in
-    let c = changed_kind (get_or before i d) (get_or stack i e) kind this other in
+merging_changes old before stack changed i d e kind inside this h =
+    let c = becomes (get_or before i d) (get_or stack i e) kind this in
+    let k = here old before stack changed i d e kind inside c.0 h in
     let n = length-set before i kind in
     let behind : drop (i + 1) (set before i kind) ≡ drop (i + 1) before = drop-set-lt (i + 1) before i kind (omega arith) in
     record {
@@ -150,5 +163,5 @@ merging_changes old before stack changed i d e kind inside this other h =
       merges = rw behind k.merges;
       rest = rw (take_more_set before i kind inside, behind) k.rest;
       same = λ f. absurd (cc);
-      fewer = λ t. omega (arith, fewer_nulls before i kind d inside c.0 c.1, no_more old before changed h.same h.fewer);
+      fewer = λ t. omega (arith, fewer_nulls before i kind d inside c.1 c.2, no_more old before changed h.same h.fewer);
     }

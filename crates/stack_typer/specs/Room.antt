@@ -2,11 +2,17 @@
 use Rattle.std.specs.Prelude.{◌≡◌, ℕ, suc, ◌<◌, Bool, true, false, List, Option, Some, None, count_by, sum_by}
 use Rattle.cil_model.specs.Passes.{Stacks}
 use Rattle.cil_model.specs.declared.place.Kind.{Kind}
-use Rattle.cil_model.specs.declared.place.Kind.TheVariants.{NullRef}
+use Rattle.cil_model.specs.declared.place.Kind.TheVariants.{Ints, Bools, NullRef}
 
 abbrev pub is_null : Kind → Bool
 is_null NullRef = true
 is_null _ = false
+
+-- The kind that one becomes by merging with another, where they merge and it changes: null becomes an array.
+abbrev pub changed_kind : Kind → Kind → Option Kind
+changed_kind NullRef Ints = Some Ints
+changed_kind NullRef Bools = Some Bools
+changed_kind _ _ = None
 
 -- The null references, which may merge to arrays.
 abbrev pub nulls : List Kind → ℕ

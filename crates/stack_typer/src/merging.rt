@@ -3,7 +3,7 @@
 ghost use Rattle.std.specs.Prelude.{◌≡◌, ◌<◌, Some, is_some, false, true};
 ghost use Rattle.std.specs.Option.{option_or};
 ghost use Rattle.cil_model.specs.Passes.{merged};
-ghost use Rattle.stack_typer.specs.Room.{nulls};
+ghost use Rattle.stack_typer.specs.Room.{changed_kind, nulls};
 
 use cil_model::{Kind, merged_kind};
 
@@ -23,6 +23,16 @@ pub fn merges(before: &[Kind], stack: &[Kind]) -> bool
     true
 }
 
+/// The kind that one becomes by merging with another, where they merge and it changes: null becomes an array.
+fn changed_kind(before: Kind, kind: Kind) -> Option<Kind>
+    ensures { result ≡ changed_kind before kind }
+{
+    match (before, kind) {
+        (Kind::NullRef, Kind::Ints | Kind::Bools) => Some(kind),
+        _ => None,
+    }
+}
+
 /// Merges each kind with the one at its place, where all merge, and says whether one changed.
 pub fn merge_into(before: &mut [Kind], stack: &[Kind]) -> bool
     ensures stack { Some before.new ≡ option_or (merged before.old stack.now) (Some before.old) }
@@ -34,9 +44,7 @@ pub fn merge_into(before: &mut [Kind], stack: &[Kind]) -> bool
     }
     let mut changed = false;
     for index in 0..before.len() {
-        if let Some(kind) = merged_kind(before[index], stack[index])
-            && kind != before[index]
-        {
+        if let Some(kind) = changed_kind(before[index], stack[index]) {
             before[index] = kind;
             changed = true;
         }

@@ -2,15 +2,15 @@
 
 ghost use Rattle.std.specs.Prelude.{◌≡◌, ◌∷◌, IfOk, Some, slice_get};
 ghost use Rattle.cil_model.specs.Comparisons.{comparison_of};
-ghost use Rattle.stack_typer.specs.Arrays.{behind_array};
-ghost use Rattle.cil_model.specs.Kinds.{when, loaded, stored_kind, behind_arithmetic, behind_comparison, behind_operator, behind_number, behind_conversion, behind_new_array, behind_length, behind_load, behind_store, duplicated, popped, behind};
+ghost use Rattle.stack_typer.specs.Arrays.{behind_address_alone, behind_array};
+ghost use Rattle.cil_model.specs.Kinds.{when, loaded, stored_kind, behind_arithmetic, behind_comparison, behind_operator, behind_number, behind_conversion, behind_new_array, behind_length, behind_load, behind_store, behind_address, behind_load_through, behind_store_through, duplicated, popped, behind};
 
 use crate::branches::{take_int, take_result, take_tested};
 use crate::calls::{call, push_place};
 use crate::stack::Stack;
 use cil_model::{
-    BinOp, CmpOp, Kind, Op, Place, Shape, array_place, comparison_of, is_array_of, is_number,
-    is_reference, kind_of, pushes_comparison, takes, unit_call,
+    BinOp, CmpOp, Kind, Op, Place, Shape, address_kind, array_place, comparison_of, is_address_of,
+    is_array_of, is_number, is_reference, kind_of, pushes_comparison, takes, unit_call,
 };
 use std::alloc::AllocError;
 
@@ -157,6 +157,47 @@ fn store_element(place: Place, stack: &mut Stack) -> bool
     take_int(stack) && take_int(stack) && take_array(place, stack)
 }
 
+/// Takes an index and an array, and pushes the address of an item of the place's arrays, if there is a place.
+fn take_address(place: Option<Place>, stack: &mut Stack) -> Result<bool, AllocError>
+    ensures { IfOk result (λ fits. when fits stack.new ≡ behind_address place stack.old) }
+{
+    let Some(place) = place else {
+        return Ok(false);
+    };
+    if !take_int(stack) || !take_array(place, stack) {
+        return Ok(false);
+    }
+    if let Some(kind) = address_kind(place) {
+        stack.push(kind)?;
+    }
+    Ok(true)
+}
+
+/// Takes the top, and says whether it was an address of an item of the place's arrays.
+fn take_address_of(place: Place, stack: &mut Stack) -> bool
+    ensures { when result stack.new ≡ behind_address_alone place stack.old }
+{
+    match stack.pop() {
+        Some(kind) => is_address_of(place, kind),
+        None => false,
+    }
+}
+
+fn load_through(place: Place, stack: &mut Stack) -> Result<bool, AllocError>
+    ensures { IfOk result (λ fits. when fits stack.new ≡ behind_load_through place stack.old) }
+{
+    if !take_address_of(place, stack) {
+        return Ok(false);
+    }
+    push(Kind::Int, stack)
+}
+
+fn store_through(place: Place, stack: &mut Stack) -> bool
+    ensures { when result stack.new ≡ behind_store_through place stack.old }
+{
+    take_int(stack) && take_address_of(place, stack)
+}
+
 /// Makes the stack before an operation the one after it, where the operation takes the kinds that it finds, and
 /// says whether it does.
 pub fn operation(shape: &Shape, op: &Op, stack: &mut Stack) -> Result<bool, AllocError>
@@ -184,6 +225,9 @@ pub fn operation(shape: &Shape, op: &Op, stack: &mut Stack) -> Result<bool, Allo
         Op::Length => take_length(stack),
         Op::LoadElem(place) => load_element(*place, stack),
         Op::StoreElem(place) => Ok(store_element(*place, stack)),
+        Op::LoadAddr(number) => take_address(array_place(*number), stack),
+        Op::LoadInd(place) => load_through(*place, stack),
+        Op::StoreInd(place) => Ok(store_through(*place, stack)),
     }
 }
 

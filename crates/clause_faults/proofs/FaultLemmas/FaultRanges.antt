@@ -102,6 +102,9 @@ module _ (low high : ℕ) where
   behind_between shape i ops.Length stack here all = made_stack shape i (operand_count shape ops.Length) stack here all
   behind_between shape i (ops.LoadElem place) stack here all = made_stack shape i (operand_count shape (ops.LoadElem place)) stack here all
   behind_between shape i (ops.StoreElem place) stack here all = made_stack shape i (operand_count shape (ops.StoreElem place)) stack here all
+  behind_between shape i (ops.LoadAddr number) stack here all = made_stack shape i (operand_count shape (ops.LoadAddr number)) stack here all
+  behind_between shape i (ops.LoadInd place) stack here all = made_stack shape i (operand_count shape (ops.LoadInd place)) stack here all
+  behind_between shape i (ops.StoreInd place) stack here all = made_stack shape i (operand_count shape (ops.StoreInd place)) stack here all
 
   old_forms : (calls : List ℕ) → AllByRecursion (Between low high) calls → FaultsBetween (map OldForm calls)
   old_forms [] all = tt

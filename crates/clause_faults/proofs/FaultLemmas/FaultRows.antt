@@ -37,6 +37,16 @@ alone :
 unfolding unit_call
 alone = (refl, (refl, (refl, (refl, (refl, refl)))))
 
+-- An address is taken, loaded through and stored through: of int32, and of bool where nothing comes.
+addresses :
+    (first_of 4 ((1, ops.LoadArg 1) ∷ (1, ops.Const (pos 0)) ∷ (5, ops.LoadAddr 2) ∷ (1, ops.LoadInd places.Ints) ∷ (5, ops.Call 1) ∷ []) ≡ Some (NotPure 2))
+    × ((first_of 2 ((1, ops.LoadArg 0) ∷ (1, ops.LoadInd places.Ints) ∷ (5, ops.Call 1) ∷ []) ≡ Some (NotPure 1))
+    × ((first_of 3 ((1, ops.LoadArg 1) ∷ (1, ops.LoadArg 0) ∷ (1, ops.StoreInd places.Ints) ∷ (5, ops.Call 1) ∷ []) ≡ Some (NotPure 2))
+    × ((first_of 3 ((2, ops.Branch tests.Always 3) ∷ (1, ops.LoadInd places.Bools) ∷ (1, ops.Const (pos 1)) ∷ (5, ops.Call 1) ∷ []) ≡ Some (NotPure 2))
+    × (first_of 3 ((2, ops.Branch tests.Always 3) ∷ (1, ops.StoreInd places.Bools) ∷ (1, ops.Const (pos 1)) ∷ (5, ops.Call 1) ∷ []) ≡ Some (NotPure 2)))))
+unfolding unit_call
+addresses = (refl, (refl, (refl, (refl, refl))))
+
 -- A result in a Requires, a result of another type, an old value inside another one, and one of another kind.
 old_forms :
     (first_of 1 ((5, ops.Call 12) ∷ (5, ops.Call 1) ∷ []) ≡ Some (OldForm 0))

@@ -1,6 +1,5 @@
 //! Arrivals that differ in their calls alone are joined, so that there are at most seven over one instruction: one for
-//! each of
-//! the six kinds, and one without a kind.
+//! each of the six kinds that values of clauses have, and one without a kind.
 
 ghost use Rattle.std.specs.Prelude.{◌≡◌, true, false, OnOk, IfOk, IfSome};
 ghost use Rattle.clause_faults.specs.GatheredStacks.{IsJoinOf, IsJoinedInto, IsPut, StandForSame};
@@ -11,7 +10,7 @@ use cil_model::Kind;
 use std::alloc::{AllocError, Global};
 
 /// The number of numbers that are kept for the arrivals over one instruction.
-pub(crate) const KINDS: usize = 8;
+pub(crate) const KINDS: usize = 10;
 
 /// Returns one arrival for two that differ in their calls alone, and None for others.
 fn join(a: Arrival, b: Arrival) -> Option<Arrival>
@@ -40,6 +39,8 @@ fn kind_number(kind: Option<Kind>) -> usize {
         Some(Kind::Bools) => 5,
         Some(Kind::NullRef) => 6,
         Some(Kind::Text) => 7,
+        Some(Kind::AddrInts) => 8,
+        Some(Kind::AddrBools) => 9,
     }
 }
 

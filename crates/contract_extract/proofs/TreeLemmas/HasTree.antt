@@ -143,6 +143,9 @@ module _ (shape : Shape) (i : Instr) (message : Bool) (told : List Told) (items 
   op_leaves (ops.LoadElem place) stays goes pure has =
       two_taken message (items_behind (ops.LoadElem place)) (λ a b. terms.Elem place a b) (λ a b rest. refl) (made shape i (take 2 told)) told items long has trees
   op_leaves (ops.StoreElem place) stays goes pure has = absurd (false≢true pure)
+  op_leaves (ops.LoadAddr number) stays goes pure has = absurd (false≢true pure)
+  op_leaves (ops.LoadInd place) stays goes pure has = absurd (false≢true pure)
+  op_leaves (ops.StoreInd place) stays goes pure has = absurd (false≢true pure)
 
 -- ---- closing calls
 

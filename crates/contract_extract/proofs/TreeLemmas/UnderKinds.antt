@@ -8,7 +8,7 @@ use Rattle.cil_model.specs.Passes.{merged_kind}
 use Rattle.cil_model.specs.declared.instruction.CmpOp.{CmpOp}
 use Rattle.cil_model.specs.declared.instruction.CmpOp.TheVariants as comparisons
 use Rattle.cil_model.specs.declared.place.Kind.{Kind}
-use Rattle.cil_model.specs.declared.place.Kind.TheVariants.{Int, Native, Ints, Bools, NullRef, Text}
+use Rattle.cil_model.specs.declared.place.Kind.TheVariants.{Int, Native, Ints, Bools, NullRef, Text, AddrInts, AddrBools}
 use Rattle.cil_model.specs.declared.place.Place.{Place}
 use Rattle.cil_model.specs.declared.place.Place.TheVariants as places
 
@@ -34,6 +34,8 @@ under_number k Ints u e = absurd (false≢true e)
 under_number k Bools u e = absurd (false≢true e)
 under_number k NullRef u e = absurd (false≢true e)
 under_number k Text u e = absurd (false≢true e)
+under_number k AddrInts u e = absurd (false≢true e)
+under_number k AddrBools u e = absurd (false≢true e)
 under_number _ _ u e = absurd u
 
 pub under_reference : (k kind : Kind) → Under k kind → is_reference kind ≡ true → is_reference k ≡ true
@@ -45,6 +47,8 @@ under_reference NullRef NullRef u e = refl
 under_reference k Int u e = absurd (false≢true e)
 under_reference k Native u e = absurd (false≢true e)
 under_reference k Text u e = absurd (false≢true e)
+under_reference k AddrInts u e = absurd (false≢true e)
+under_reference k AddrBools u e = absurd (false≢true e)
 under_reference _ _ u e = absurd u
 
 pub under_tested : (k kind : Kind) → Under k kind → is_tested kind ≡ true → is_tested k ≡ true
@@ -112,6 +116,8 @@ comparable_below Int Native Ints u e = absurd (false≢true e)
 comparable_below Int Native Bools u e = absurd (false≢true e)
 comparable_below Int Native NullRef u e = absurd (false≢true e)
 comparable_below Int Native Text u e = absurd (false≢true e)
+comparable_below Int Native AddrInts u e = absurd (false≢true e)
+comparable_below Int Native AddrBools u e = absurd (false≢true e)
 comparable_below _ _ other u e = absurd u
 
 comparable_turned : (a b : Kind) → are_comparable a b ≡ are_comparable b a
@@ -121,36 +127,64 @@ comparable_turned Int Ints = refl
 comparable_turned Int Bools = refl
 comparable_turned Int NullRef = refl
 comparable_turned Int Text = refl
+comparable_turned Int AddrInts = refl
+comparable_turned Int AddrBools = refl
 comparable_turned Native Int = refl
 comparable_turned Native Native = refl
 comparable_turned Native Ints = refl
 comparable_turned Native Bools = refl
 comparable_turned Native NullRef = refl
 comparable_turned Native Text = refl
+comparable_turned Native AddrInts = refl
+comparable_turned Native AddrBools = refl
 comparable_turned Ints Int = refl
 comparable_turned Ints Native = refl
 comparable_turned Ints Ints = refl
 comparable_turned Ints Bools = refl
 comparable_turned Ints NullRef = refl
 comparable_turned Ints Text = refl
+comparable_turned Ints AddrInts = refl
+comparable_turned Ints AddrBools = refl
 comparable_turned Bools Int = refl
 comparable_turned Bools Native = refl
 comparable_turned Bools Ints = refl
 comparable_turned Bools Bools = refl
 comparable_turned Bools NullRef = refl
 comparable_turned Bools Text = refl
+comparable_turned Bools AddrInts = refl
+comparable_turned Bools AddrBools = refl
 comparable_turned NullRef Int = refl
 comparable_turned NullRef Native = refl
 comparable_turned NullRef Ints = refl
 comparable_turned NullRef Bools = refl
 comparable_turned NullRef NullRef = refl
 comparable_turned NullRef Text = refl
+comparable_turned NullRef AddrInts = refl
+comparable_turned NullRef AddrBools = refl
 comparable_turned Text Int = refl
 comparable_turned Text Native = refl
 comparable_turned Text Ints = refl
 comparable_turned Text Bools = refl
 comparable_turned Text NullRef = refl
 comparable_turned Text Text = refl
+comparable_turned Text AddrInts = refl
+comparable_turned Text AddrBools = refl
+comparable_turned AddrInts Int = refl
+comparable_turned AddrInts Native = refl
+comparable_turned AddrInts Ints = refl
+comparable_turned AddrInts Bools = refl
+comparable_turned AddrInts NullRef = refl
+comparable_turned AddrInts Text = refl
+comparable_turned AddrInts AddrInts = refl
+comparable_turned AddrInts AddrBools = refl
+comparable_turned AddrBools Int = refl
+comparable_turned AddrBools Native = refl
+comparable_turned AddrBools Ints = refl
+comparable_turned AddrBools Bools = refl
+comparable_turned AddrBools NullRef = refl
+comparable_turned AddrBools Text = refl
+comparable_turned AddrBools AddrInts = refl
+comparable_turned AddrBools AddrBools = refl
 
 comparable_both : (j k a b : Kind) → Under j a → Under k b → are_comparable a b ≡ true → are_comparable j k ≡ true
 comparable_both j k a b u v e =
@@ -176,6 +210,8 @@ compares_pushes comparisons.GtUn Ints NullRef e = refl
 compares_pushes comparisons.GtUn Bools NullRef e = refl
 compares_pushes comparisons.GtUn NullRef NullRef e = refl
 compares_pushes comparisons.GtUn Text NullRef e = absurd (false≢true e)
+compares_pushes comparisons.GtUn AddrInts NullRef e = absurd (false≢true e)
+compares_pushes comparisons.GtUn AddrBools NullRef e = absurd (false≢true e)
 compares_pushes op a b e = e
 
 pub under_pushes : (op : CmpOp) (j k a b : Kind) → Under j a → Under k b → pushes_comparison op a b ≡ true → pushes_comparison op j k ≡ true
@@ -201,4 +237,22 @@ under_merged Ints Text later u e = absurd u
 under_merged Bools Text later u e = absurd u
 under_merged NullRef Text later u e = absurd u
 under_merged Text Text later u e = absurd u
+under_merged AddrInts Text later u e = absurd u
+under_merged AddrBools Text later u e = absurd u
+under_merged Int AddrInts later u e = absurd u
+under_merged Native AddrInts later u e = absurd u
+under_merged Ints AddrInts later u e = absurd u
+under_merged Bools AddrInts later u e = absurd u
+under_merged NullRef AddrInts later u e = absurd u
+under_merged Text AddrInts later u e = absurd u
+under_merged AddrInts AddrInts later u e = absurd u
+under_merged AddrBools AddrInts later u e = absurd u
+under_merged Int AddrBools later u e = absurd u
+under_merged Native AddrBools later u e = absurd u
+under_merged Ints AddrBools later u e = absurd u
+under_merged Bools AddrBools later u e = absurd u
+under_merged NullRef AddrBools later u e = absurd u
+under_merged Text AddrBools later u e = absurd u
+under_merged AddrInts AddrBools later u e = absurd u
+under_merged AddrBools AddrBools later u e = absurd u
 under_merged k _ _ u e = absurd cc
