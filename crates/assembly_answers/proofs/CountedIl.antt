@@ -124,6 +124,22 @@ none_in_stored size places.Int = refl
 none_in_stored size places.Bools = refl
 none_in_stored size places.Ints = refl
 
+none_in_loaded_through : (size : ℕ) (place : Place) → line_count (op_text size (ops.LoadInd place)) ≡ 0
+unfolding line_count
+none_in_loaded_through size places.Void = refl
+none_in_loaded_through size places.Bool = refl
+none_in_loaded_through size places.Int = refl
+none_in_loaded_through size places.Bools = refl
+none_in_loaded_through size places.Ints = refl
+
+none_in_stored_through : (size : ℕ) (place : Place) → line_count (op_text size (ops.StoreInd place)) ≡ 0
+unfolding line_count
+none_in_stored_through size places.Void = refl
+none_in_stored_through size places.Bool = refl
+none_in_stored_through size places.Int = refl
+none_in_stored_through size places.Bools = refl
+none_in_stored_through size places.Ints = refl
+
 none_in_op : (size : ℕ) (op : Op) → line_count (op_text size op) ≡ 0
 unfolding line_count
 none_in_op size ops.Nop = refl
@@ -148,6 +164,9 @@ none_in_op size (ops.NewArray token) = none_in_token (codes "newarr") token refl
 none_in_op size ops.Length = refl
 none_in_op size (ops.LoadElem place) = none_in_loaded size place
 none_in_op size (ops.StoreElem place) = none_in_stored size place
+none_in_op size (ops.LoadAddr token) = none_in_token (codes "ldelema") token refl
+none_in_op size (ops.LoadInd place) = none_in_loaded_through size place
+none_in_op size (ops.StoreInd place) = none_in_stored_through size place
 
 pub instr_is_line : (i : Instr) → line_count (il_line i) ≡ 1
 unfolding line_count

@@ -86,6 +86,7 @@ value_plain place heap (values.Int n) = number_plain place n
 value_plain place heap (values.Native n) = refl
 value_plain place heap values.Null = refl
 value_plain place heap (values.Array index) = items_plain place (items_at heap index)
+value_plain place heap (values.Addr index item) = refl
 value_plain place heap values.Text = refl
 
 returned_plain : (place : Place) (heap : Heap) (result : Option Value) → line_count (returned_text place heap result) ≡ 0

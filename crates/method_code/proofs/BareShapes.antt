@@ -84,6 +84,9 @@ op_takes shape (ops.NewArray token) e = refl
 op_takes shape ops.Length e = refl
 op_takes shape (ops.LoadElem place) e = refl
 op_takes shape (ops.StoreElem place) e = refl
+op_takes shape (ops.LoadAddr token) e = refl
+op_takes shape (ops.LoadInd place) e = refl
+op_takes shape (ops.StoreInd place) e = refl
 
 closing_known : (op : Op) → closes op ≡ true → IsKnownCall op
 closing_known (ops.Call number) e = closing_is_clause_call (unit_call number) e

@@ -70,6 +70,7 @@ op_numbered : (meaning : Meaning) (uses : List ℕ) (op : Op) → HasSmallNumber
     → called_by (numbered_op meaning uses op) ≡ option_map (place_in uses) (called_by_op meaning op)
 op_numbered meaning uses (ops.Call token) small among = callee_numbered uses (meaning.call token) (small token) among
 op_numbered meaning uses (ops.NewArray token) small among = refl
+op_numbered meaning uses (ops.LoadAddr token) small among = refl
 op_numbered meaning uses (ops.Text token) small among = refl
 op_numbered meaning uses _ small among = refl
 

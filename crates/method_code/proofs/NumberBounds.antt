@@ -1,4 +1,4 @@
--- The numbers of calls and of new arrays are numbers of 32 bits.
+-- The numbers of calls and of arrays are numbers of 32 bits.
 use Rattle.std.proofs.Common.{◌≡◌, ℕ, ◌+◌, ◌<◌, ◌^◌, List, length, Option, Some, None, refl, arith}
 use Rattle.std.specs.Prelude.{position, ◌==◌}
 use Rattle.std.specs.Option.{option_map_or}

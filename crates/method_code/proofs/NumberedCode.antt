@@ -51,6 +51,11 @@ unfolding short_form object_form
 array_spelled at size token n is small =
     (0x8d ∷ little_bytes 4 n, record { size = (spelling (placed at size (ops.NewArray token)) is).spells.size; row = inl (0x8d, omega arith, (n, small, refl, refl)) })
 
+address_spelled : (at size token n : ℕ) → IsSpelled (placed at size (ops.LoadAddr token)) → n < 2 ^ 32 → IsSpelled (placed at size (ops.LoadAddr n))
+unfolding short_form object_form
+address_spelled at size token n is small =
+    (0x8f ∷ little_bytes 4 n, record { size = (spelling (placed at size (ops.LoadAddr token)) is).spells.size; row = inl (0x8f, omega arith, (n, small, refl, refl)) })
+
 spelled_from : (at : ℕ) (is : List Instr) (code : List ℕ) → CodeFrom at is code → AllByRecursion IsSpelled is × (spelled_code is ≡ code)
 spelled_from at [] code h = (tt, sym h)
 spelled_from at (i ∷ is) code (place, (bytes, rest, spells, parts, others)) =
@@ -65,35 +70,39 @@ pub each_spelled : (is : List Instr) → ((code : List ℕ) × CodeOf is code) �
 each_spelled is (code, of_code) = all_by_index IsSpelled is (spelled_from 0 is code of_code.spelled).0
 
 module _ (meaning : Meaning) (callees : List ℕ) where
-  -- What is so of an operation and itself, and of these three with whatever number, is so of an operation and the
+  -- What is so of an operation and itself, and of these four with whatever number, is so of an operation and the
   -- numbered one.
   by_op : (P : Op → Op → Type 0) → ((token : ℕ) → P (ops.Call token) (ops.Call (call_number callees (meaning.call token)))) → ((token : ℕ) → P (ops.NewArray token) (ops.NewArray (array_number (meaning.element token))))
-      → ((token : ℕ) → P (ops.Text token) (ops.Text 0)) → ((op : Op) → P op op) → (op : Op) → P op (numbered_op meaning callees op)
-  by_op P call array text same ops.Nop = same ops.Nop
-  by_op P call array text same (ops.LoadArg n) = same (ops.LoadArg n)
-  by_op P call array text same (ops.StoreArg n) = same (ops.StoreArg n)
-  by_op P call array text same (ops.LoadLocal n) = same (ops.LoadLocal n)
-  by_op P call array text same (ops.StoreLocal n) = same (ops.StoreLocal n)
-  by_op P call array text same ops.Null = same ops.Null
-  by_op P call array text same (ops.Const n) = same (ops.Const n)
-  by_op P call array text same ops.Dup = same ops.Dup
-  by_op P call array text same ops.Pop = same ops.Pop
-  by_op P call array text same (ops.Call token) = call token
-  by_op P call array text same ops.Return = same ops.Return
-  by_op P call array text same (ops.Branch test target) = same (ops.Branch test target)
-  by_op P call array text same (ops.Switch targets) = same (ops.Switch targets)
-  by_op P call array text same (ops.Bin operator) = same (ops.Bin operator)
-  by_op P call array text same ops.Neg = same ops.Neg
-  by_op P call array text same ops.Not = same ops.Not
-  by_op P call array text same ops.ConvI4 = same ops.ConvI4
-  by_op P call array text same (ops.Text token) = text token
-  by_op P call array text same (ops.NewArray token) = array token
-  by_op P call array text same ops.Length = same ops.Length
-  by_op P call array text same (ops.LoadElem place) = same (ops.LoadElem place)
-  by_op P call array text same (ops.StoreElem place) = same (ops.StoreElem place)
+      → ((token : ℕ) → P (ops.LoadAddr token) (ops.LoadAddr (array_number (meaning.element token)))) → ((token : ℕ) → P (ops.Text token) (ops.Text 0)) → ((op : Op) → P op op)
+      → (op : Op) → P op (numbered_op meaning callees op)
+  by_op P call array address text same ops.Nop = same ops.Nop
+  by_op P call array address text same (ops.LoadArg n) = same (ops.LoadArg n)
+  by_op P call array address text same (ops.StoreArg n) = same (ops.StoreArg n)
+  by_op P call array address text same (ops.LoadLocal n) = same (ops.LoadLocal n)
+  by_op P call array address text same (ops.StoreLocal n) = same (ops.StoreLocal n)
+  by_op P call array address text same ops.Null = same ops.Null
+  by_op P call array address text same (ops.Const n) = same (ops.Const n)
+  by_op P call array address text same ops.Dup = same ops.Dup
+  by_op P call array address text same ops.Pop = same ops.Pop
+  by_op P call array address text same (ops.Call token) = call token
+  by_op P call array address text same ops.Return = same ops.Return
+  by_op P call array address text same (ops.Branch test target) = same (ops.Branch test target)
+  by_op P call array address text same (ops.Switch targets) = same (ops.Switch targets)
+  by_op P call array address text same (ops.Bin operator) = same (ops.Bin operator)
+  by_op P call array address text same ops.Neg = same ops.Neg
+  by_op P call array address text same ops.Not = same ops.Not
+  by_op P call array address text same ops.ConvI4 = same ops.ConvI4
+  by_op P call array address text same (ops.Text token) = text token
+  by_op P call array address text same (ops.NewArray token) = array token
+  by_op P call array address text same ops.Length = same ops.Length
+  by_op P call array address text same (ops.LoadElem place) = same (ops.LoadElem place)
+  by_op P call array address text same (ops.StoreElem place) = same (ops.StoreElem place)
+  by_op P call array address text same (ops.LoadAddr token) = address token
+  by_op P call array address text same (ops.LoadInd place) = same (ops.LoadInd place)
+  by_op P call array address text same (ops.StoreInd place) = same (ops.StoreInd place)
 
   same_targets : (op : Op) → branch_targets (numbered_op meaning callees op) ≡ branch_targets op
-  same_targets op = by_op (λ before after. branch_targets after ≡ branch_targets before) (λ token. refl) (λ token. refl) (λ token. refl) (λ op. refl) op
+  same_targets op = by_op (λ before after. branch_targets after ≡ branch_targets before) (λ token. refl) (λ token. refl) (λ token. refl) (λ token. refl) (λ op. refl) op
 
   module _ (small : HasSmallNumbers meaning) (few : length callees + 100 < 2 ^ 32) where
     numbered_spelled : (i : Instr) → IsSpelled i → IsSpelled (numbered_instr meaning callees i)
@@ -101,6 +110,7 @@ module _ (meaning : Meaning) (callees : List ℕ) where
         by_op (λ before after. IsSpelled (placed i.at i.size before) → IsSpelled (placed i.at i.size after))
         (λ token h. call_spelled i.at i.size token _ h (call_small callees (meaning.call token) (small token) few))
         (λ token h. array_spelled i.at i.size token _ h (array_small (meaning.element token)))
+        (λ token h. address_spelled i.at i.size token _ h (array_small (meaning.element token)))
         (λ token h. text_spelled i.at i.size token 0 h (omega arith))
         (λ op h. h)
         i.op is

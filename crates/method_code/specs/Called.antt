@@ -38,6 +38,9 @@ called_by_op meaning (ops.NewArray token) = None
 called_by_op meaning ops.Length = None
 called_by_op meaning (ops.LoadElem place) = None
 called_by_op meaning (ops.StoreElem place) = None
+called_by_op meaning (ops.LoadAddr token) = None
+called_by_op meaning (ops.LoadInd place) = None
+called_by_op meaning (ops.StoreInd place) = None
 
 -- The methods that the instructions call.
 abbrev pub calls_in : Meaning → List Instr → List ℕ

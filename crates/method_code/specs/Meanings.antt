@@ -4,7 +4,7 @@ use Rattle.cil_model.specs.declared.place.Place.{Place}
 use Rattle.method_code.specs.declared.call.Call.{Call}
 use Rattle.method_code.specs.declared.call.Call.TheVariants.{Callee, Contract, Unknown}
 
--- What a call of each token calls, and the type of the elements of a new array of each, where it is known.
+-- What a call of each token calls, and the type of the elements of arrays of each, where it is known.
 pub record Meaning : Type 0 where
   pub call : ℕ → Call
   pub element : ℕ → Option Place

@@ -20,7 +20,7 @@ call_number callees (Contract number) = number
 call_number callees (Callee key) = option_map_or (λ index. 100 + index) (position (λ callee. callee == key) callees) 0
 call_number callees Unknown = 0
 
--- The number of a new array of such elements, 0 where units know no such arrays.
+-- The number of arrays of such elements, 0 where units know none.
 abbrev pub array_number : Option Place → ℕ
 array_number (Some places.Bool) = 1
 array_number (Some places.Int) = 2
@@ -33,6 +33,7 @@ array_number None = 0
 abbrev pub numbered_op : Meaning → List ℕ → Op → Op
 numbered_op meaning callees (ops.Call token) = ops.Call (call_number callees (meaning.call token))
 numbered_op meaning callees (ops.NewArray token) = ops.NewArray (array_number (meaning.element token))
+numbered_op meaning callees (ops.LoadAddr token) = ops.LoadAddr (array_number (meaning.element token))
 numbered_op meaning callees (ops.Text token) = ops.Text 0
 numbered_op meaning callees ops.Nop = ops.Nop
 numbered_op meaning callees (ops.LoadArg n) = ops.LoadArg n
@@ -53,6 +54,8 @@ numbered_op meaning callees ops.ConvI4 = ops.ConvI4
 numbered_op meaning callees ops.Length = ops.Length
 numbered_op meaning callees (ops.LoadElem place) = ops.LoadElem place
 numbered_op meaning callees (ops.StoreElem place) = ops.StoreElem place
+numbered_op meaning callees (ops.LoadInd place) = ops.LoadInd place
+numbered_op meaning callees (ops.StoreInd place) = ops.StoreInd place
 
 -- The instruction stays at its place, and of its size.
 abbrev pub numbered_instr : Meaning → List ℕ → Instr → Instr

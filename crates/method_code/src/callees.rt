@@ -47,7 +47,10 @@ fn called_by_op<T: Tokens>(tokens: &T, op: &Op) -> Option<u32>
         | Op::NewArray(_)
         | Op::Length
         | Op::LoadElem(_)
-        | Op::StoreElem(_) => None,
+        | Op::StoreElem(_)
+        | Op::LoadAddr(_)
+        | Op::LoadInd(_)
+        | Op::StoreInd(_) => None,
     }
 }
 

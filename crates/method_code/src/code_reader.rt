@@ -31,7 +31,7 @@ use std::alloc::{AllocError, Global};
 /// The code of a method, with numbers of its unit in place of tokens, and what its contract block says.
 #[derive(Drop)]
 pub struct MethodCode {
-    /// The instructions. The operands of calls, of new arrays and of texts are numbers of the unit.
+    /// The instructions. The operands of calls, of new arrays, of items' addresses and of texts are numbers of the unit.
     pub instrs: List<Instr>,
     /// The keys of the methods that the code calls, each once, in order of first use.
     pub callees: List<u32>,

@@ -41,7 +41,7 @@ fn call_number(callees: &CalleeSet, call: Call) -> u32
     }
 }
 
-/// The number of a new array of such elements, 0 where units know no such arrays.
+/// The number of arrays of such elements, 0 where units know none.
 fn array_number(element: Option<Place>) -> u32
     ensures { result ≡ array_number element }
 {
@@ -60,6 +60,7 @@ fn number_op<T: Tokens>(tokens: &T, callees: &CalleeSet, op: &mut Op)
     match op {
         Op::Call(token) => *token = call_number(callees, tokens.call(Token(*token))),
         Op::NewArray(token) => *token = array_number(tokens.element(Token(*token))),
+        Op::LoadAddr(token) => *token = array_number(tokens.element(Token(*token))),
         Op::Text(token) => *token = 0,
         Op::Nop
         | Op::LoadArg(_)
@@ -79,13 +80,15 @@ fn number_op<T: Tokens>(tokens: &T, callees: &CalleeSet, op: &mut Op)
         | Op::ConvI4
         | Op::Length
         | Op::LoadElem(_)
-        | Op::StoreElem(_) => {}
+        | Op::StoreElem(_)
+        | Op::LoadInd(_)
+        | Op::StoreInd(_) => {}
     }
 }
 
 /// Puts numbers in the place of all tokens.
 ///
-/// Cost: each instruction is visited once, and each call and new array looked up once.
+/// Cost: each instruction is visited once, and each token looked up once.
 fn number_code<T: Tokens>(tokens: &T, callees: &CalleeSet, instrs: &mut Vec<Instr>)
     requires few { length callees.now + 100 < 2 ^ 32 }
     ensures { instrs.new.items ≡ map (numbered_instr (T.meaning tokens.now) callees.now) instrs.old.items }

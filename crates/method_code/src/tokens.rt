@@ -17,7 +17,7 @@ pub trait Tokens {
     fn call(&self, token: Token) -> Call
         ensures { result ≡ (meaning self.now).call token.0 };
 
-    /// The type of the elements of a new array of this token, where it is known.
+    /// The type of the elements of arrays of this token, where it is known.
     fn element(&self, token: Token) -> Option<Place>
         ensures { result ≡ (meaning self.now).element token.0 };
 

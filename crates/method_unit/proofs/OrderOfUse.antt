@@ -35,12 +35,14 @@ op_named : (callees : ℕ) (op : Op) → names_something callees op ≡ true →
 op_named callees (ops.Call number) so =
     let both = and_parts (is_some (unit_call number)) _ so in (both.0, one_of_them callees (called_by (ops.Call number)) both.1)
 op_named callees (ops.NewArray number) so = (so, tt)
+op_named callees (ops.LoadAddr number) so = (so, tt)
 op_named callees (ops.Text number) so = (eqb-true number 0 so, tt)
 op_named callees _ so = (tt, tt)
 
 op_passes : (callees : ℕ) (op : Op) → NamesSomething op → IsOneOf callees (called_by op) → names_something callees op ≡ true
 op_passes callees (ops.Call number) named one = rw (named, test_one callees (called_by (ops.Call number)) one) refl
 op_passes callees (ops.NewArray number) named one = named
+op_passes callees (ops.LoadAddr number) named one = named
 op_passes callees (ops.Text number) named one = eq-eqb number 0 named
 op_passes callees _ named one = refl
 

@@ -54,10 +54,11 @@ decoding_test base code = option_map (λ fault. form_at base (il_fault_at fault)
 unfoldable pub count_test : ℕ → List Instr → Option UnitFault
 count_test base is = option_map (λ i. form_at base i.at) (slice_get is MAX_INSTRUCTIONS)
 
--- The operand of a call, of a new array or of a text is a number of a unit with so many callees.
+-- The operand of a call, of a new array, of an item's address or of a text is a number of a unit with so many callees.
 abbrev pub names_something : ℕ → Op → Bool
 names_something callees (ops.Call number) = is_some (unit_call number) && option_map_or (λ callee. nat_lt callee callees) (called_by (ops.Call number)) true
 names_something callees (ops.NewArray number) = is_some (array_place number)
+names_something callees (ops.LoadAddr number) = is_some (array_place number)
 names_something callees (ops.Text number) = number == 0
 names_something callees ops.Nop = true
 names_something callees (ops.LoadArg n) = true
@@ -78,6 +79,8 @@ names_something callees ops.ConvI4 = true
 names_something callees ops.Length = true
 names_something callees (ops.LoadElem place) = true
 names_something callees (ops.StoreElem place) = true
+names_something callees (ops.LoadInd place) = true
+names_something callees (ops.StoreInd place) = true
 
 abbrev pub number_test : ℕ → ℕ → Instr → Option UnitFault
 number_test base callees i = must (names_something callees i.op) (form_at base i.at)

@@ -56,7 +56,10 @@ fn called_by(op: &Op) -> Option<u32>
         | Op::NewArray(_)
         | Op::Length
         | Op::LoadElem(_)
-        | Op::StoreElem(_) => None,
+        | Op::StoreElem(_)
+        | Op::LoadAddr(_)
+        | Op::LoadInd(_)
+        | Op::StoreInd(_) => None,
     }
 }
 

@@ -39,7 +39,8 @@ pub fn check_count(instrs: &[Instr], base: u32) -> Result<(), UnitFault>
     }
 }
 
-/// Returns whether the operand of a call, of a new array or of a text is a number of a unit with so many callees.
+/// Returns whether the operand of a call, of a new array, of an item's address or of a text is a number of a unit with
+/// so many callees.
 pub fn names_something(callees: usize, op: &Op) -> bool
     ensures { result ≡ names_something callees op.now }
 {
@@ -57,7 +58,7 @@ pub fn names_something(callees: usize, op: &Op) -> bool
             ) => true,
             None => false,
         },
-        Op::NewArray(number) => array_place(*number).is_some(),
+        Op::NewArray(number) | Op::LoadAddr(number) => array_place(*number).is_some(),
         Op::Text(number) => *number == 0,
         Op::Nop
         | Op::LoadArg(_)
@@ -77,7 +78,9 @@ pub fn names_something(callees: usize, op: &Op) -> bool
         | Op::ConvI4
         | Op::Length
         | Op::LoadElem(_)
-        | Op::StoreElem(_) => true,
+        | Op::StoreElem(_)
+        | Op::LoadInd(_)
+        | Op::StoreInd(_) => true,
     }
 }
 

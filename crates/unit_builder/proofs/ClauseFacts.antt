@@ -50,6 +50,8 @@ number_told (Some kinds.Ints) so = absurd cc
 number_told (Some kinds.Bools) so = absurd cc
 number_told (Some kinds.NullRef) so = absurd cc
 number_told (Some kinds.Text) so = absurd cc
+number_told (Some kinds.AddrInts) so = absurd cc
+number_told (Some kinds.AddrBools) so = absurd cc
 number_told None so = absurd cc
 
 numbers_told : (shape : Shape) (clauses : List Clause) → list_all (is_number_clause shape) clauses ≡ true → AllByRecursion (IsNumberClause shape.args shape.result) clauses

@@ -32,7 +32,8 @@ pub enum Reason {
     Code(IlFault),
     /// Its clauses do not read.
     Clauses(ClauseFault),
-    /// At this IL offset something is called that no unit knows, or an array of other elements is made.
+    /// At this IL offset something is called that no unit knows, or an array of other elements is made, or the address
+    /// of such an element taken.
     Token(u32),
     /// Its code has no kinds of stacks.
     Kinds(TypeFault),

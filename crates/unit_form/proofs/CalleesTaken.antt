@@ -47,6 +47,8 @@ number_kind (Some numbers.Ints) e = absurd (cc)
 number_kind (Some numbers.Bools) e = absurd (cc)
 number_kind (Some numbers.NullRef) e = absurd (cc)
 number_kind (Some numbers.Text) e = absurd (cc)
+number_kind (Some numbers.AddrInts) e = absurd (cc)
+number_kind (Some numbers.AddrBools) e = absurd (cc)
 number_kind None e = absurd (cc)
 
 -- What is known of a clause that is read after these.

@@ -46,7 +46,10 @@ fn is_clause_tree(
 {
     tree.condition_depth() as usize <= MAX_CONDITIONS
         && (olds + tree.old_count()) as usize <= MAX_OLD_VALUES
-        && tree.kind(args, result_place, kind == ClauseKind::Ensures) == Some(Kind::Int)
+        && matches!(
+            tree.kind(args, result_place, kind == ClauseKind::Ensures),
+            Some(Kind::Int)
+        )
 }
 
 /// The tree of these roots, where a clause may have it.
