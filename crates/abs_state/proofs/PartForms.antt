@@ -45,6 +45,8 @@ var_decides : (symbols references : ℕ) (v : Var) → Decides (is_var symbols r
 var_decides symbols references (vars.Number e) = number_decides symbols e
 var_decides symbols references (vars.Reference r) = at_most_decides r references
 var_decides symbols references vars.Text = (λ is. tt, λ is. refl)
+var_decides symbols references (vars.Address r e) =
+    Decides-and (nat_le r references) (is_number symbols e) (at_most_decides r references) (number_decides symbols e)
 
 place_decides : (p : Place) → Decides (is_array_place p) (IsArrayPlace p)
 place_decides places.Void = (λ is. absurd (true≢false (sym is)), λ is. elim is [ ])

@@ -25,6 +25,7 @@ abbrev pub is_var : (symbols references : ℕ) → Var → Bool
 is_var symbols references (vars.Number e) = is_number symbols e
 is_var symbols references (vars.Reference r) = nat_le r references
 is_var symbols references vars.Text = true
+is_var symbols references (vars.Address r e) = nat_le r references && is_number symbols e
 
 abbrev pub is_array_place : Place → Bool
 is_array_place places.Bools = true

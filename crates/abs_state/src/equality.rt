@@ -39,7 +39,8 @@ fn is_same_var(a: &Var, b: &Var) -> bool
         (Var::Number(x), Var::Number(y)) => is_same_expr(x, y),
         (Var::Reference(r), Var::Reference(q)) => r == q,
         (Var::Text, Var::Text) => true,
-        _ => false,
+        (Var::Address(r, x), Var::Address(q, y)) => r == q && is_same_expr(x, y),
+        (Var::Number(_) | Var::Reference(_) | Var::Text | Var::Address(..), _) => false,
     }
 }
 

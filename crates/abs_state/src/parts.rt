@@ -89,6 +89,7 @@ impl Sizes {
             Var::Number(e) => self.has_number(e),
             Var::Reference(r) => r as usize <= self.references,
             Var::Text => true,
+            Var::Address(r, e) => r as usize <= self.references && self.has_number(e),
         }
     }
 

@@ -2,7 +2,7 @@
 
 ghost use Rattle.std.specs.Prelude.{◌≡◌, OnOk, OnErr, IfSome, IsSome, reverse, slice_get};
 ghost use Rattle.std.specs.Option.{ForSome};
-ghost use Rattle.state_facts.specs.Forms.{HasForm, HasVar};
+ghost use Rattle.state_facts.specs.Forms.{HasForm, HasVar, IsArrayPlace};
 ghost use Rattle.state_facts.specs.Moves.{place_at};
 ghost use Rattle.state_facts.specs.StateFacts.{variables_in};
 ghost use Rattle.state_facts.specs.UnknownValues as rule;
@@ -91,6 +91,22 @@ impl AbsState {
         Ok(())
     }
 
+    /// Pushes the address of an item of an array of a type, of which no more is known.
+    fn push_item_address(&mut self, place: Place) -> Result<(), NoMemory>
+        requires { IsArrayPlace place }
+        ensures ok { OnOk result (self.new ≡ rule.push_unknown_address place self.old) }
+        ensures err { OnErr result (self.new ≡ self.old) }
+        ensures form { ForSome self.old HasForm }
+    {
+        let Some(known) = &mut self.known else {
+            return Ok(());
+        };
+        if !known.push_unknown_address(place)? {
+            self.known = None;
+        }
+        Ok(())
+    }
+
     /// Pushes a number of a span, of which no more is known: the constant, where one int32 alone is of the span. Where
     /// none is, nothing is reached.
     pub fn push_within(&mut self, span: Span) -> Result<(), NoMemory>
@@ -109,5 +125,16 @@ impl AbsState {
         ensures err { OnErr result (self.new ≡ self.old) }
     {
         self.push_unknown_value(place)
+    }
+
+    /// Pushes the address of an item of an array of a type, of which no more is known: the array may be each one of the
+    /// type that there is.
+    pub fn push_unknown_address(&mut self, place: Place) -> Result<(), NoMemory>
+        requires { IsArrayPlace place }
+        ensures ok { OnOk result (self.new ≡ rule.push_unknown_address place self.old) }
+        ensures keeps { OnOk result (rule.KeepsUnknownAddress place self.old self.new) }
+        ensures err { OnErr result (self.new ≡ self.old) }
+    {
+        self.push_item_address(place)
     }
 }

@@ -11,10 +11,10 @@ use Rattle.alias_facts.specs.NullnessOf.{is_null}
 use Rattle.frame_names.specs.declared.reference.Reference.{Reference}
 use Rattle.frame_names.specs.declared.var.Var.{Var}
 use Rattle.frame_names.specs.declared.var.Var.TheVariants as vars
-use Rattle.frame_names.specs.Binding.{FrameBinding, Gaps, References, SlotLists, Symbols, all_filled, both_filled, bound_by, bound_frames, expr_of, filled, filled_with, fits, free_slots, is_at_most, is_equal, number_in_slot, reaches, reference_in_slot, with_length, with_lengths, with_number, with_reference, with_references, with_symbols, with_var, with_vars}
+use Rattle.frame_names.specs.Binding.{FrameBinding, Gaps, References, SlotLists, Symbols, all_filled, both_filled, bound_by, bound_frames, bound_number, bound_reference, expr_of, filled, filled_with, fits, free_slots, is_at_most, is_equal, number_in_slot, reaches, reference_in_slot, with_length, with_lengths, with_number, with_reference, with_references, with_symbols, with_var, with_vars}
 use Rattle.frame_names.specs.BoundMeaning.{AreLengthsBound, HasSameLengths, KeepGaps, NullsAreNull, SaysSame, arrays_bound, bound_worth, numbers_bound, zero_bound}
 use Rattle.frame_names.specs.Frames.{length_at, nullness_at}
-use Rattle.frame_names.specs.Meaning.{a_number, an_array, said}
+use Rattle.frame_names.specs.Meaning.{a_number, an_address, an_array, said}
 
 -- ---- slots
 
@@ -167,6 +167,7 @@ abbrev Says : (ℕ → ℤ) → (ℕ → Option ℕ) → SlotLists → Var → V
 Says number array slots (vars.Number e) (vars.Number f) = IsWorth number slots.symbols f (worth number e)
 Says number array slots (vars.Reference r) (vars.Reference q) = IsArray array slots.references q r
 Says number array slots vars.Text vars.Text = Unit {0}
+Says number array slots (vars.Address r e) (vars.Address q f) = IsArray array slots.references q r × IsWorth number slots.symbols f (worth number e)
 Says number array slots _ _ = ⊥
 
 abbrev AllSay : (ℕ → ℤ) → (ℕ → Option ℕ) → SlotLists → List Var → List Var → Type 0
@@ -190,12 +191,11 @@ says_later number array old new (vars.Number e) (vars.Number f) stay says =
 says_later number array old new (vars.Reference r) (vars.Reference q) stay says =
     record { bound = says.bound; there = stay.references q says.bound says.there; same = says.same }
 says_later number array old new vars.Text vars.Text stay says = tt
-says_later number array old new (vars.Number e) (vars.Reference q) stay says = absurd says
-says_later number array old new (vars.Number e) vars.Text stay says = absurd says
-says_later number array old new (vars.Reference r) (vars.Number f) stay says = absurd says
-says_later number array old new (vars.Reference r) vars.Text stay says = absurd says
-says_later number array old new vars.Text (vars.Number f) stay says = absurd says
-says_later number array old new vars.Text (vars.Reference q) stay says = absurd says
+says_later number array old new (vars.Address r e) (vars.Address q f) stay says = (
+  record { bound = says.0.bound; there = stay.references q says.0.bound says.0.there; same = says.0.same },
+  record { bound = says.1.bound; there = stay.symbols f.sym says.1.bound says.1.there; same = says.1.same },
+)
+says_later number array old new x y stay says = absurd says
 
 all_later : (number : ℕ → ℤ) (array : ℕ → Option ℕ) (old new : SlotLists) (xs ys : List Var) → BothStay old new → AllSay number array old xs ys → AllSay number array new xs ys
 all_later number array old new [] [] stay all = tt
@@ -236,16 +236,24 @@ module _ (gap : Gaps) (number : ℕ → ℤ) (array : ℕ → Option ℕ) (a b :
       subst (λ n. IsVarBound number array old n vars.Text vars.Text) new_is
       (record { stay = record { symbols = λ s x there. there; references = λ s x there. there }; says = tt })
 
+  -- The reference is bound first. What it is bound to stays where the index is bound.
+  address_var : (r q : ℕ) (e f : Expr) (old new : SlotLists) (made : Option SlotLists) → slice_get old.references 0 ≡ Some (Some 0) → bound_reference a b r q old ≡ made
+      → option_and_then (bound_number gap e f) made ≡ Some new → IsVarBound number array old new (vars.Address r e) (vars.Address q f)
+  address_var r q e f old new None zero_there at is = cc
+  address_var r q e f old new (Some next) zero_there at is =
+      let first = reference_var r q old next _ zero_there refl at in
+      let index = number_var e f next new _ refl is in
+      record {
+        stay = both_on old next new first.stay index.stay;
+        says = (says_later number array next new (vars.Reference r) (vars.Reference q) index.stay first.says, index.says);
+      }
+
   var_bound : (x y : Var) (old new : SlotLists) → slice_get old.references 0 ≡ Some (Some 0) → with_var gap a b x y old ≡ Some new → IsVarBound number array old new x y
   var_bound (vars.Number e) (vars.Number f) old new zero_there is = number_var e f old new _ refl is
   var_bound (vars.Reference r) (vars.Reference q) old new zero_there is = reference_var r q old new _ zero_there refl is
   var_bound vars.Text vars.Text old new zero_there is = text_var old new is
-  var_bound (vars.Number e) (vars.Reference q) old new zero_there is = cc
-  var_bound (vars.Number e) vars.Text old new zero_there is = cc
-  var_bound (vars.Reference r) (vars.Number f) old new zero_there is = cc
-  var_bound (vars.Reference r) vars.Text old new zero_there is = cc
-  var_bound vars.Text (vars.Number f) old new zero_there is = cc
-  var_bound vars.Text (vars.Reference q) old new zero_there is = cc
+  var_bound (vars.Address r e) (vars.Address q f) old new zero_there is = address_var r q e f old new _ zero_there refl is
+  var_bound x y old new zero_there is = cc
 
   -- Where all variables are bound, those of the second state say what those of the first say.
   vars_bound : (xs ys : List Var) (old new : SlotLists) → slice_get old.references 0 ≡ Some (Some 0) → with_vars gap a b xs ys old ≡ Some new
@@ -326,21 +334,27 @@ module _ {X : Type 0} where
           let made_is : y ∷ rest ≡ xs = cc in
           ap (λ l. get_or l (suc s) d) (sym made_is) ∙ rest_at rest rest_is
 
+worth_filled : (number : ℕ → ℤ) (symbols : Symbols) (binding : FrameBinding) (f : Expr) (n : ℤ) → all_filled symbols ≡ Some binding.symbols
+    → IsWorth number symbols f n → worth (numbers_bound number binding) f ≡ n
+worth_filled number symbols binding f n filled_is is =
+    ap (λ bound. bound_worth number bound +ℤ f.k) (filled_at symbols binding.symbols f.sym is.bound zero_bound filled_is is.there) ∙ is.same
+
+array_filled : (array : ℕ → Option ℕ) (references : References) (binding : FrameBinding) (q r : ℕ) → all_filled references ≡ Some binding.references
+    → IsArray array references q r → arrays_bound array binding q ≡ array r
+array_filled array references binding q r filled_is is = ap array (filled_at references binding.references q is.bound 0 filled_is is.there) ∙ is.same
+
 say_filled : (number : ℕ → ℤ) (array : ℕ → Option ℕ) (slots : SlotLists) (binding : FrameBinding) (x y : Var) → all_filled slots.symbols ≡ Some binding.symbols
     → all_filled slots.references ≡ Some binding.references → Says number array slots x y
     → said (numbers_bound number binding) (arrays_bound array binding) y ≡ said number array x
 say_filled number array slots binding (vars.Number e) (vars.Number f) symbols references says =
-    ap (λ bound. a_number (bound_worth number bound +ℤ f.k)) (filled_at slots.symbols binding.symbols f.sym says.bound zero_bound symbols says.there)
-    ∙ ap (λ n. a_number n) says.same
+    ap (λ n. a_number n) (worth_filled number slots.symbols binding f (worth number e) symbols says)
 say_filled number array slots binding (vars.Reference r) (vars.Reference q) symbols references says =
-    ap (λ bound. an_array (array bound)) (filled_at slots.references binding.references q says.bound 0 references says.there) ∙ ap (λ n. an_array n) says.same
+    ap (λ n. an_array n) (array_filled array slots.references binding q r references says)
 say_filled number array slots binding vars.Text vars.Text symbols references says = refl
-say_filled number array slots binding (vars.Number e) (vars.Reference q) symbols references says = absurd says
-say_filled number array slots binding (vars.Number e) vars.Text symbols references says = absurd says
-say_filled number array slots binding (vars.Reference r) (vars.Number f) symbols references says = absurd says
-say_filled number array slots binding (vars.Reference r) vars.Text symbols references says = absurd says
-say_filled number array slots binding vars.Text (vars.Number f) symbols references says = absurd says
-say_filled number array slots binding vars.Text (vars.Reference q) symbols references says = absurd says
+say_filled number array slots binding (vars.Address r e) (vars.Address q f) symbols references says =
+    ap (λ n. an_address n (worth (numbers_bound number binding) f)) (array_filled array slots.references binding q r references says.0)
+    ∙ ap (λ n. an_address (array r) n) (worth_filled number slots.symbols binding f (worth number e) symbols says.1)
+say_filled number array slots binding x y symbols references says = absurd says
 
 all_filled_say : (number : ℕ → ℤ) (array : ℕ → Option ℕ) (slots : SlotLists) (binding : FrameBinding) (xs ys : List Var) → all_filled slots.symbols ≡ Some binding.symbols
     → all_filled slots.references ≡ Some binding.references → AllSay number array slots xs ys
@@ -402,11 +416,6 @@ frames_say_same gap a_vars b_vars a b count (Some binding) is = bound_says gap a
 
 worth_later : (number : ℕ → ℤ) (old new : Symbols) (f : Expr) (n : ℤ) → Stays old new → IsWorth number old f n → IsWorth number new f n
 worth_later number old new f n stays is = record { bound = is.bound; there = stays f.sym is.bound is.there; same = is.same }
-
-worth_filled : (number : ℕ → ℤ) (symbols : Symbols) (binding : FrameBinding) (f : Expr) (n : ℤ) → all_filled symbols ≡ Some binding.symbols
-    → IsWorth number symbols f n → worth (numbers_bound number binding) f ≡ n
-worth_filled number symbols binding f n filled_is is =
-    ap (λ bound. bound_worth number bound +ℤ f.k) (filled_at symbols binding.symbols f.sym is.bound zero_bound filled_is is.there) ∙ is.same
 
 module _ (gap : Gaps) (number : ℕ → ℤ) (a : List Reference) (keep : KeepGaps gap number) where
   record IsLength (known : Reference) (slot : Option ℕ) (symbols : Symbols) : Type 0 where

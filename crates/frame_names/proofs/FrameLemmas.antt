@@ -20,12 +20,8 @@ same_references (x ∷ a) [] alike = absurd alike
 same_references (vars.Number e ∷ a) (vars.Number f ∷ b) alike = same_references a b alike.1
 same_references (vars.Reference r ∷ a) (vars.Reference q ∷ b) alike = ap suc (same_references a b alike.1)
 same_references (vars.Text ∷ a) (vars.Text ∷ b) alike = same_references a b alike.1
-same_references (vars.Number e ∷ a) (vars.Reference q ∷ b) alike = absurd (true≢false (sym alike.0))
-same_references (vars.Number e ∷ a) (vars.Text ∷ b) alike = absurd (true≢false (sym alike.0))
-same_references (vars.Reference r ∷ a) (vars.Number f ∷ b) alike = absurd (true≢false (sym alike.0))
-same_references (vars.Reference r ∷ a) (vars.Text ∷ b) alike = absurd (true≢false (sym alike.0))
-same_references (vars.Text ∷ a) (vars.Number f ∷ b) alike = absurd (true≢false (sym alike.0))
-same_references (vars.Text ∷ a) (vars.Reference q ∷ b) alike = absurd (true≢false (sym alike.0))
+same_references (vars.Address r e ∷ a) (vars.Address q f ∷ b) alike = ap suc (same_references a b alike.1)
+same_references (x ∷ a) (y ∷ b) alike = absurd (true≢false (sym alike.0))
 
 pub same_numbers : (a b : List Var) → AreAlike a b → length (numbers_of a) ≡ length (numbers_of b)
 same_numbers [] [] alike = refl
@@ -34,12 +30,8 @@ same_numbers (x ∷ a) [] alike = absurd alike
 same_numbers (vars.Number e ∷ a) (vars.Number f ∷ b) alike = ap suc (same_numbers a b alike.1)
 same_numbers (vars.Reference r ∷ a) (vars.Reference q ∷ b) alike = same_numbers a b alike.1
 same_numbers (vars.Text ∷ a) (vars.Text ∷ b) alike = same_numbers a b alike.1
-same_numbers (vars.Number e ∷ a) (vars.Reference q ∷ b) alike = absurd (true≢false (sym alike.0))
-same_numbers (vars.Number e ∷ a) (vars.Text ∷ b) alike = absurd (true≢false (sym alike.0))
-same_numbers (vars.Reference r ∷ a) (vars.Number f ∷ b) alike = absurd (true≢false (sym alike.0))
-same_numbers (vars.Reference r ∷ a) (vars.Text ∷ b) alike = absurd (true≢false (sym alike.0))
-same_numbers (vars.Text ∷ a) (vars.Number f ∷ b) alike = absurd (true≢false (sym alike.0))
-same_numbers (vars.Text ∷ a) (vars.Reference q ∷ b) alike = absurd (true≢false (sym alike.0))
+same_numbers (vars.Address r e ∷ a) (vars.Address q f ∷ b) alike = ap suc (same_numbers a b alike.1)
+same_numbers (x ∷ a) (y ∷ b) alike = absurd (true≢false (sym alike.0))
 
 pub same_length : (a b : List Var) → AreAlike a b → length a ≡ length b
 same_length [] [] alike = refl
@@ -52,6 +44,7 @@ alike_itself [] = tt
 alike_itself (vars.Number e ∷ a) = (refl, alike_itself a)
 alike_itself (vars.Reference r ∷ a) = (refl, alike_itself a)
 alike_itself (vars.Text ∷ a) = (refl, alike_itself a)
+alike_itself (vars.Address r e ∷ a) = (refl, alike_itself a)
 
 -- ---- near constants
 

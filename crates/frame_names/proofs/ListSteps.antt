@@ -83,16 +83,35 @@ bound_so : (result : Bool) (new : SlotLists) (made : Option SlotLists) → resul
 bound_so true new made is made_is = made_is
 bound_so false new made is made_is = cc
 
+unbound_so : {X : Type 0} (result : Bool) (new : X) (made : Option X) → result ≡ false → (if result then Some new else None) ≡ made → None ≡ made
+unbound_so true new made is made_is = absurd cc
+unbound_so false new made is made_is = made_is
+
 module _ (gap : Gaps) (a b : List Reference) (xs ys : List Var) where
+  -- The next variable is bound, and then the others.
+  vars_next : (old : SlotLists) (i : ℕ) (d e : Var) → i < length xs → length xs ≡ length ys
+      → option_and_then (with_vars gap a b (drop (i + 1) xs) (drop (i + 1) ys)) (with_var gap a b (get_or xs i d) (get_or ys i e) old)
+      ≡ with_vars gap a b (drop i xs) (drop i ys) old
+  vars_next old i d e below same =
+      let there : i < length ys = omega (arith, below, same) in
+      sym (ap (λ vs. with_vars gap a b vs (drop i ys) old) (drop_next xs i d below)
+      ∙ ap (λ vs. with_vars gap a b (get_or xs i d ∷ drop (i + 1) xs) vs old) (drop_next ys i e there))
+
   -- One variable more is bound.
   pub vars_step : (old new : SlotLists) (result : Bool) (i : ℕ) (d e : Var) → i < length xs → length xs ≡ length ys → result ≡ true
       → (if result then Some new else None) ≡ with_var gap a b (get_or xs i d) (get_or ys i e) old
       → with_vars gap a b (drop (i + 1) xs) (drop (i + 1) ys) new ≡ with_vars gap a b (drop i xs) (drop i ys) old
   vars_step old new result i d e below same is made =
-      let there : i < length ys = omega (arith, below, same) in
       ap (option_and_then (with_vars gap a b (drop (i + 1) xs) (drop (i + 1) ys))) (bound_so result new _ is made)
-      ∙ sym (ap (λ vs. with_vars gap a b vs (drop i ys) old) (drop_next xs i d below)
-      ∙ ap (λ vs. with_vars gap a b (get_or xs i d ∷ drop (i + 1) xs) vs old) (drop_next ys i e there))
+      ∙ vars_next old i d e below same
+
+  -- The next variable cannot be bound.
+  pub vars_stop : (old new : SlotLists) (result : Bool) (i : ℕ) (d e : Var) → i < length xs → length xs ≡ length ys → result ≡ false
+      → (if result then Some new else None) ≡ with_var gap a b (get_or xs i d) (get_or ys i e) old
+      → None ≡ with_vars gap a b (drop i xs) (drop i ys) old
+  vars_stop old new result i d e below same is made =
+      ap (option_and_then (with_vars gap a b (drop (i + 1) xs) (drop (i + 1) ys))) (unbound_so result new _ is made)
+      ∙ vars_next old i d e below same
 
   pub vars_end : (slots : SlotLists) (i : ℕ) → length xs ≤ i → length xs ≡ length ys → Some slots ≡ with_vars gap a b (drop i xs) (drop i ys) slots
   vars_end slots i all same =
@@ -100,10 +119,6 @@ module _ (gap : Gaps) (a b : List Reference) (xs ys : List Var) where
       sym (ap (λ vs. with_vars gap a b vs (drop i ys) slots) (drop_all i xs all) ∙ ap (λ vs. with_vars gap a b [] vs slots) (drop_all i ys there))
 
 -- ---- lengths
-
-unbound_so : (result : Bool) (new : Symbols) (made : Option Symbols) → result ≡ false → (if result then Some new else None) ≡ made → None ≡ made
-unbound_so true new made is made_is = absurd cc
-unbound_so false new made is made_is = made_is
 
 -- The length of the next reference cannot be bound.
 pub lengths_stop : (gap : Gaps) (a b : List Reference) (slots : References) (symbols new : Symbols) (slot : Option ℕ) (result : Bool) (i : ℕ) (d : Reference)

@@ -17,7 +17,7 @@ use Rattle.frame_names.specs.declared.var.Var.{Var}
 use Rattle.frame_names.specs.declared.var.Var.TheVariants as vars
 use Rattle.frame_names.specs.Frames.{AreAlike, length_at, numbers_of, references_of}
 use Rattle.frame_names.specs.PairedFrames.{FramePairing, exprs_of, if_near, is_near, named_frame, new_vars, old_of, paired_frames, pairing_by, pairs_of}
-use Rattle.frame_names.specs.Meaning.{HasBothLengths, SaysBoth, a_number, a_text, an_array, said}
+use Rattle.frame_names.specs.Meaning.{HasBothLengths, SaysBoth, a_number, a_text, an_address, an_array, said}
 use Rattle.frame_names.proofs.FrameLemmas.{alike_itself, same_exprs, same_numbers, same_references}
 
 -- ---- references
@@ -91,12 +91,15 @@ said_new number later array now (vars.Reference r ∷ vs) (vars.Reference q ∷ 
     ∙ ap (λ l. said number array (vars.Reference q) ∷ l) (said_new number later array now vs side numbers references more alike.1 worths both.tail)
 said_new number later array now (vars.Text ∷ vs) (vars.Text ∷ side) numbers references more alike worths arrays =
     ap (λ l. a_text ∷ l) (said_new number later array now vs side numbers references more alike.1 worths arrays)
-said_new number later array now (vars.Number e ∷ vs) (vars.Reference q ∷ side) numbers references more alike worths arrays = absurd (true≢false (sym alike.0))
-said_new number later array now (vars.Number e ∷ vs) (vars.Text ∷ side) numbers references more alike worths arrays = absurd (true≢false (sym alike.0))
-said_new number later array now (vars.Reference r ∷ vs) (vars.Number f ∷ side) numbers references more alike worths arrays = absurd (true≢false (sym alike.0))
-said_new number later array now (vars.Reference r ∷ vs) (vars.Text ∷ side) numbers references more alike worths arrays = absurd (true≢false (sym alike.0))
-said_new number later array now (vars.Text ∷ vs) (vars.Number f ∷ side) numbers references more alike worths arrays = absurd (true≢false (sym alike.0))
-said_new number later array now (vars.Text ∷ vs) (vars.Reference q ∷ side) numbers references more alike worths arrays = absurd (true≢false (sym alike.0))
+said_new number later array now (vars.Address r e ∷ vs) (vars.Address q f ∷ side) [] references more alike worths arrays = cc
+said_new number later array now (vars.Address r e ∷ vs) (vars.Address q f ∷ side) (n ∷ numbers) [] more alike worths arrays = cc
+said_new number later array now (vars.Address r e ∷ vs) (vars.Address q f ∷ side) (n ∷ numbers) (m ∷ references) more alike worths arrays =
+    let first = heads _ _ _ _ arrays in
+    let index = heads _ _ _ _ worths in
+    ap (λ z. an_address z (worth later n) ∷ map (said later now) (new_vars numbers references vs)) first.head
+    ∙ ap (λ z. an_address (array q) z ∷ map (said later now) (new_vars numbers references vs)) index.head
+    ∙ ap (λ l. said number array (vars.Address q f) ∷ l) (said_new number later array now vs side numbers references more alike.1 index.tail first.tail)
+said_new number later array now (x ∷ vs) (y ∷ side) numbers references more alike worths arrays = absurd (true≢false (sym alike.0))
 
 -- ---- the whole
 

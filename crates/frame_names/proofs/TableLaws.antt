@@ -132,12 +132,8 @@ module _ (known other : List Reference) where
   uses_agree (vars.Number e ∷ a) (vars.Number f ∷ b) alike places = uses_agree a b alike.1 places
   uses_agree (vars.Reference r ∷ a) (vars.Reference q ∷ b) alike places = (places.0, uses_agree a b alike.1 places.1)
   uses_agree (vars.Text ∷ a) (vars.Text ∷ b) alike places = uses_agree a b alike.1 places
-  uses_agree (vars.Number e ∷ a) (vars.Reference q ∷ b) alike places = absurd (true≢false (sym alike.0))
-  uses_agree (vars.Number e ∷ a) (vars.Text ∷ b) alike places = absurd (true≢false (sym alike.0))
-  uses_agree (vars.Reference r ∷ a) (vars.Number f ∷ b) alike places = absurd (true≢false (sym alike.0))
-  uses_agree (vars.Reference r ∷ a) (vars.Text ∷ b) alike places = absurd (true≢false (sym alike.0))
-  uses_agree (vars.Text ∷ a) (vars.Number f ∷ b) alike places = absurd (true≢false (sym alike.0))
-  uses_agree (vars.Text ∷ a) (vars.Reference q ∷ b) alike places = absurd (true≢false (sym alike.0))
+  uses_agree (vars.Address r e ∷ a) (vars.Address q f ∷ b) alike places = (places.0, uses_agree a b alike.1 places.1)
+  uses_agree (x ∷ a) (y ∷ b) alike places = absurd (true≢false (sym alike.0))
 
   origin_agrees : AgreeOnPlace known other origin
   origin_agrees = λ p q first second. cc

@@ -79,12 +79,19 @@ with_reference a b r q slots =
 
 -- ---- variables, and then lengths
 
+abbrev pub bound_number : Gaps → Expr → Expr → SlotLists → Option SlotLists
+bound_number gap e f slots = option_map (with_symbols slots.references) (with_number gap e f slots.symbols)
+
+abbrev pub bound_reference : List Reference → List Reference → ℕ → ℕ → SlotLists → Option SlotLists
+bound_reference a b r q slots = option_map (with_references slots.symbols) (with_reference a b r q slots.references)
+
+-- Of an address first the reference is bound, then the index.
 abbrev pub with_var : Gaps → List Reference → List Reference → Var → Var → SlotLists → Option SlotLists
-with_var gap a b (vars.Number e) (vars.Number f) slots =
-    option_map (with_symbols slots.references) (with_number gap e f slots.symbols)
-with_var gap a b (vars.Reference r) (vars.Reference q) slots =
-    option_map (with_references slots.symbols) (with_reference a b r q slots.references)
+with_var gap a b (vars.Number e) (vars.Number f) slots = bound_number gap e f slots
+with_var gap a b (vars.Reference r) (vars.Reference q) slots = bound_reference a b r q slots
 with_var gap a b vars.Text vars.Text slots = Some slots
+with_var gap a b (vars.Address r e) (vars.Address q f) slots =
+    option_and_then (bound_number gap e f) (bound_reference a b r q slots)
 with_var gap a b _ _ slots = None
 
 abbrev pub with_vars : Gaps → List Reference → List Reference → List Var → List Var → SlotLists

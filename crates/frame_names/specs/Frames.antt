@@ -15,13 +15,17 @@ use Rattle.frame_names.specs.declared.var.Var.TheVariants as vars
 
 abbrev pub number_in : Var → Option Expr
 number_in (vars.Number e) = Some e
-number_in _ = None
+number_in (vars.Reference r) = None
+number_in vars.Text = None
+number_in (vars.Address r e) = Some e
 
 abbrev pub reference_in : Var → Option ℕ
+reference_in (vars.Number e) = None
 reference_in (vars.Reference r) = Some r
-reference_in _ = None
+reference_in vars.Text = None
+reference_in (vars.Address r e) = Some r
 
--- The numbers of variables, and their references, in order.
+-- The numbers of variables, and their references, in order. An address has both.
 abbrev pub numbers_of : List Var → List Expr
 numbers_of vs = filter_map number_in vs
 
@@ -32,9 +36,10 @@ abbrev pub same_kind : Var → Var → Bool
 same_kind (vars.Number e) (vars.Number f) = true
 same_kind (vars.Reference r) (vars.Reference q) = true
 same_kind vars.Text vars.Text = true
+same_kind (vars.Address r e) (vars.Address q f) = true
 same_kind _ _ = false
 
--- Both lists are as long, and at each index both have a number, a reference or a text.
+-- Both lists are as long, and at each index both have a number, a reference, a text or an address.
 abbrev pub AreAlike : List Var → List Var → Type 0
 AreAlike [] [] = Unit {0}
 AreAlike (x ∷ xs) (y ∷ ys) = (same_kind x y ≡ true) × AreAlike xs ys

@@ -8,17 +8,19 @@ use Rattle.frame_names.specs.declared.reference.Reference.{Reference}
 use Rattle.frame_names.specs.declared.var.Var.{Var}
 use Rattle.frame_names.specs.declared.var.Var.TheVariants as vars
 
--- What a variable has: a number, an array or null, or a text.
+-- What a variable has: a number, an array or null, a text, or the address, in an array, of the item of an index.
 pub data Said : Type 0 where
   a_number : ℤ → Said
   an_array : Option ℕ → Said
   a_text : Said
+  an_address : Option ℕ → ℤ → Said
 
 -- What a variable has, where each symbol is worth a number, and each reference is the array of a number, or null.
 abbrev pub said : (ℕ → ℤ) → (ℕ → Option ℕ) → Var → Said
 said number array (vars.Number e) = a_number (worth number e)
 said number array (vars.Reference r) = an_array (array r)
 said number array vars.Text = a_text
+said number array (vars.Address r e) = an_address (array r) (worth number e)
 
 -- ---- two frames that were named together. Each new symbol is worth what its first use is on that side, and each new
 -- reference is the array that its first use is

@@ -42,6 +42,8 @@ new_vars numbers references (vars.Number e ∷ vs) =
 new_vars numbers references (vars.Reference r ∷ vs) =
     vars.Reference (first_expr references).sym ∷ new_vars numbers (behind references) vs
 new_vars numbers references (vars.Text ∷ vs) = vars.Text ∷ new_vars numbers references vs
+new_vars numbers references (vars.Address r e ∷ vs) =
+    vars.Address (first_expr references).sym (first_expr numbers) ∷ new_vars (behind numbers) (behind references) vs
 
 -- ---- the pairing
 

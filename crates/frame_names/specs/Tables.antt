@@ -54,9 +54,11 @@ AreNullsOnBoth a b merged =
 abbrev pub AgreeOnPlace : List Reference → List Reference → Key → Type 0
 AgreeOnPlace a b key = (p q : Place) → place_at a key.s ≡ Some p → place_at b key.t ≡ Some q → p ≡ q
 
--- At each index two references are of one type, where both have one.
+-- At each index two references, of their own or of addresses, are of one type, where both have one.
 abbrev pub AreOfOnePlace : List Reference → List Reference → List Var → List Var → Type 0
 AreOfOnePlace a b (vars.Reference r ∷ xs) (vars.Reference q ∷ ys) =
+    ((p o : Place) → place_at a r ≡ Some p → place_at b q ≡ Some o → p ≡ o) × AreOfOnePlace a b xs ys
+AreOfOnePlace a b (vars.Address r e ∷ xs) (vars.Address q f ∷ ys) =
     ((p o : Place) → place_at a r ≡ Some p → place_at b q ≡ Some o → p ≡ o) × AreOfOnePlace a b xs ys
 AreOfOnePlace a b (x ∷ xs) (y ∷ ys) = AreOfOnePlace a b xs ys
 AreOfOnePlace a b _ _ = Unit {0}

@@ -63,6 +63,10 @@ impl<'a, O: Order> Tables<'a, O> {
                 bind_reference(self.a, self.b, slots.references.as_mut_slice(), r, q)
             }
             (Var::Text, Var::Text) => true,
+            (Var::Address(r, e), Var::Address(q, f)) => {
+                bind_reference(self.a, self.b, slots.references.as_mut_slice(), r, q)
+                    && bind_number(self.order, slots.symbols.as_mut_slice(), e, f)
+            }
             _ => false,
         }
     }

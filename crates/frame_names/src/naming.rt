@@ -40,6 +40,10 @@ impl Taken {
             Var::Number(_) => Var::Number(take_next(numbers, &mut self.numbers)),
             Var::Reference(_) => Var::Reference(take_next(references, &mut self.references).sym),
             Var::Text => Var::Text,
+            Var::Address(..) => {
+                let reference = take_next(references, &mut self.references).sym;
+                Var::Address(reference, take_next(numbers, &mut self.numbers))
+            }
         }
     }
 }

@@ -146,10 +146,12 @@ narrow r spelled = record {
 
 var_there : (count references : ℕ) (v : Var) → (symbols.var count references).IsSpelled v
     → forms.IsVar count references v
-unfolding symbols.var
+unfolding symbols.var symbols.address
 var_there count references (vars.Number e) spelled = near_there count e spelled.1.0
 var_there count references (vars.Reference r) spelled = name_there references r spelled.1.0
 var_there count references vars.Text spelled = tt
+var_there count references (vars.Address r e) spelled =
+    (name_there references r spelled.1.0, near_there count e spelled.1.1.0)
 
 record IsGoodRow (count : ℕ) (r : BoundRow) : Type 0 where
   s : (1 ≤ r.s) × (r.s ≤ count)

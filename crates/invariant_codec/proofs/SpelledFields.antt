@@ -146,11 +146,13 @@ range_spelled r narrow = (
 
 var_spelled : (count references : ℕ) (v : Var) → count < 2 ^ 16 → references < 2 ^ 16 → forms.IsVar count references v
     → (symbols.var count references).IsSpelled v
-unfolding symbols.var numbers.byte
+unfolding symbols.var symbols.address numbers.byte
 var_spelled count references (vars.Number e) small few is = ((omega arith, refl), (near_spelled count e small is, refl))
 var_spelled count references (vars.Reference r) small few
     is = ((omega arith, refl), (name_spelled references r is few, refl))
 var_spelled count references vars.Text small few is = ((omega arith, refl), refl)
+var_spelled count references (vars.Address r e) small few is =
+    ((omega arith, refl), (name_spelled references r is.0 few, (near_spelled count e small is.1, refl)))
 
 abbrev IsRow : ℕ → BoundRow → Type 0
 IsRow count r = (is_pair r.s r.t ≡ true) × (AreBelow (count + 1) r × FitsSigned w64 r.k)

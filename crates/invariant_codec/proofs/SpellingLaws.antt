@@ -114,10 +114,12 @@ arrays_same count (r ∷ references) (s ∷ contents) = ap₂ (λ (a b : List �
 -- ---- symbols
 
 var_same : (count references : ℕ) (v : Var) → (symbols.var count references).spell v ≡ spelled.var_bytes v
-unfolding symbols.var spelled.var_bytes numbers.byte numbers.name numbers.number
+unfolding symbols.var symbols.address spelled.var_bytes numbers.byte numbers.name numbers.number
 var_same count references (vars.Number e) = ap (λ (t : List ℕ). little_bytes 1 1 ++ t) (near_same count e)
 var_same count references (vars.Reference r) = refl
 var_same count references vars.Text = append-nil (little_bytes 1 3)
+var_same count references (vars.Address r e) =
+    ap (λ (t : List ℕ). little_bytes 1 4 ++ (little_bytes 2 r ++ t)) (near_same count e)
 
 row_same : (count : ℕ) (r : BoundRow) → (symbols.row count).spell r ≡ spelled.row_bytes r
 unfolding symbols.row symbols.other_symbol spelled.row_bytes numbers.proper_name numbers.number numbers.int64

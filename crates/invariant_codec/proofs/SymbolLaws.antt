@@ -13,8 +13,9 @@ use Rattle.symbolic_values.specs.declared.def.Def.{Def}
 use Rattle.symbolic_values.specs.declared.def.Def.TheVariants.{Eq, Lt, LtUn, NullTest, Sub}
 use Rattle.invariant_codec.specs.Formats.{each, in_order, tested}
 use Rattle.invariant_codec.specs.Numbers.{byte, expr, flag, int64, is_within, name, near_expr, number, proper_name}
-use Rattle.invariant_codec.specs.Symbols.{Definition, def, def_of, def_of_two, def_tag, def_with_two, definition}
-use Rattle.invariant_codec.specs.Symbols.{definition_of, definition_precedes, definitions, first_in, is_null_where}
+use Rattle.invariant_codec.specs.Symbols.{Definition, address, def, def_of, def_of_two, def_tag, def_with_two}
+use Rattle.invariant_codec.specs.Symbols.{definition, definition_of, definition_precedes, definitions, first_in}
+use Rattle.invariant_codec.specs.Symbols.{is_null_where}
 use Rattle.invariant_codec.specs.Symbols.{null_test, number_in, other_symbol, pair, pair_of, pairs, reference_in, row}
 use Rattle.invariant_codec.specs.Symbols.{row_of, row_precedes, rows, second_in, tested_reference, var, var_of, var_tag}
 use Rattle.invariant_codec.specs.Symbols.{variables}
@@ -25,24 +26,34 @@ use Rattle.invariant_codec.proofs.NumberLaws.{number_exact, proper_exact, within
 
 -- ---- variables
 
-var_tagged : (symbols references tag : ℕ) (v : Var) → 1 ≤ tag → tag ≤ 3 → (var_of symbols references tag).IsSpelled v
+var_tagged : (symbols references tag : ℕ) (v : Var) → 1 ≤ tag → tag ≤ 4 → (var_of symbols references tag).IsSpelled v
     → var_tag v ≡ tag
+unfolding address
 var_tagged symbols references zero v least most spelled = absurd (omega (arith, least))
 var_tagged symbols references (suc zero) v least most spelled = ap var_tag spelled.1
 var_tagged symbols references (suc (suc zero)) v least most spelled = ap var_tag spelled.1
 var_tagged symbols references (suc (suc (suc zero))) v least most spelled = ap var_tag spelled
-var_tagged symbols references (suc (suc (suc (suc n)))) v least most spelled = absurd (omega (arith, most))
+var_tagged symbols references (suc (suc (suc (suc zero)))) v least most spelled = ap var_tag spelled.1.1
+var_tagged symbols references (suc (suc (suc (suc (suc n))))) v least most spelled = absurd (omega (arith, most))
+
+address_exact : (bytes : List ℕ) (symbols references : ℕ) → IsBytes bytes → IsExact bytes (address symbols references)
+unfolding address
+address_exact bytes symbols references fits =
+    part_exact bytes reference_in (name references) _ (name_exact bytes references fits)
+    (λ r. last_exact bytes number_in (vars.Address r) (near_expr symbols) (near_exact bytes symbols fits) (λ e _. refl))
+    (λ r v _ spelled. ap reference_in spelled.1)
 
 pub var_exact : (bytes : List ℕ) (symbols references : ℕ) → IsBytes bytes → IsExact bytes (var symbols references)
 unfolding var
 var_exact bytes symbols references fits =
-    part_exact bytes var_tag (tested (is_within 1 3) byte) (var_of symbols references)
-    (tested_exact bytes (is_within 1 3) byte (byte_exact bytes fits)) (λ tag.
+    part_exact bytes var_tag (tested (is_within 1 4) byte) (var_of symbols references)
+    (tested_exact bytes (is_within 1 4) byte (byte_exact bytes fits)) (λ tag.
     choice_exact bytes (tag == 1) _ _ (last_exact bytes number_in vars.Number (near_expr symbols)
     (near_exact bytes symbols fits) (λ e _. refl))
     (choice_exact bytes (tag == 2) _ _ (last_exact bytes reference_in vars.Reference (name references)
-    (name_exact bytes references fits) (λ r _. refl)) (only_exact bytes vars.Text)))
-    (λ tag v spelled rest. let is = within 1 3 tag spelled.1 in var_tagged symbols references tag v is.0 is.1 rest)
+    (name_exact bytes references fits) (λ r _. refl))
+    (choice_exact bytes (tag == 3) _ _ (only_exact bytes vars.Text) (address_exact bytes symbols references fits))))
+    (λ tag v spelled rest. let is = within 1 4 tag spelled.1 in var_tagged symbols references tag v is.0 is.1 rest)
 
 pub variables_exact : (bytes : List ℕ) (symbols references : ℕ) → IsBytes bytes
     → IsExact bytes (variables symbols references)

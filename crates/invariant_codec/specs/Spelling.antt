@@ -78,6 +78,7 @@ unfoldable pub var_bytes : Var → List ℕ
 var_bytes (vars.Number e) = little_bytes 1 1 ++ expr_bytes e
 var_bytes (vars.Reference r) = little_bytes 1 2 ++ little_bytes 2 r
 var_bytes vars.Text = little_bytes 1 3
+var_bytes (vars.Address r e) = little_bytes 1 4 ++ (little_bytes 2 r ++ expr_bytes e)
 
 -- The numbers of two symbols or references.
 abbrev pub names_bytes : ℕ → ℕ → List ℕ

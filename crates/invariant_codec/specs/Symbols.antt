@@ -14,30 +14,39 @@ use Rattle.invariant_codec.specs.Numbers.{byte, expr, flag, int64, is_within, na
 
 -- ---- variables
 
--- 1 for a number, 2 for a reference, 3 for a text.
+-- 1 for a number, 2 for a reference, 3 for a text, 4 for an address.
 abbrev pub var_tag : Var → ℕ
 var_tag (vars.Number e) = 1
 var_tag (vars.Reference r) = 2
 var_tag vars.Text = 3
+var_tag (vars.Address r e) = 4
 
 abbrev pub number_in : Var → Expr
 number_in (vars.Number e) = e
 number_in (vars.Reference r) = zero_expr
 number_in vars.Text = zero_expr
+number_in (vars.Address r e) = e
 
 abbrev pub reference_in : Var → ℕ
 reference_in (vars.Number e) = 0
 reference_in (vars.Reference r) = r
 reference_in vars.Text = 0
+reference_in (vars.Address r e) = r
+
+-- The reference of an address, and then its index.
+unfoldable pub address : (symbols references : ℕ) → Format Var
+address symbols references =
+    part reference_in (name references) (λ r. last_part number_in (vars.Address r) (near_expr symbols))
 
 abbrev pub var_of : (symbols references tag : ℕ) → Format Var
 var_of symbols references tag =
     choice (tag == 1) (last_part number_in vars.Number (near_expr symbols))
-    (choice (tag == 2) (last_part reference_in vars.Reference (name references)) (only vars.Text))
+    (choice (tag == 2) (last_part reference_in vars.Reference (name references))
+    (choice (tag == 3) (only vars.Text) (address symbols references)))
 
 -- What a variable has, after its tag.
 unfoldable pub var : (symbols references : ℕ) → Format Var
-var symbols references = part var_tag (tested (is_within 1 3) byte) (var_of symbols references)
+var symbols references = part var_tag (tested (is_within 1 4) byte) (var_of symbols references)
 
 unfoldable pub variables : (symbols references : ℕ) → Format (List Var)
 variables symbols references = part length (number 2) (each (var symbols references))

@@ -26,6 +26,11 @@ fn put_var(out: &mut Vec<u8>, var: Var) -> Result<(), NoMemory>
             put_u16(out, u64::from(r))
         }
         Var::Text => put_byte(out, 3),
+        Var::Address(r, e) => {
+            put_byte(out, 4)?;
+            put_u16(out, u64::from(r))?;
+            put_expr(out, e)
+        }
     }
 }
 

@@ -16,7 +16,7 @@ use Rattle.symbolic_values.specs.declared.def.Def.TheVariants.{Eq, Lt, LtUn, Nul
 use Rattle.invariant_text.specs.NumberTexts.{added_text, expr_text, hole_text, range_text, sign_text, symbol_text}
 use Rattle.invariant_text.specs.ReferenceLines.{bound_text, each_segment, exprs_text, mark_text, next_expr, nullness_text, segment_text, segments_text}
 use Rattle.invariant_text.specs.SymbolLines.{both, def_text, null_test_text}
-use Rattle.invariant_text.specs.VariableLines.{reference_text, value_text, variable_name}
+use Rattle.invariant_text.specs.VariableLines.{address_text, reference_text, value_text, variable_name}
 use Rattle.invariant_text.proofs.PlainTexts.{NoFeed, no_feed_behind, no_feed_either, no_feed_in, number_no_feed, place_no_feed}
 
 -- ---- numbers
@@ -62,10 +62,19 @@ reference_no_feed r =
     no_feed_either (r == 0) (codes "null") (codes "r" ++ decimal r) refl
     (no_feed_behind (codes "r") (decimal r) refl (number_no_feed r))
 
+address_no_feed : (r : ℕ) (e : Expr) → NoFeed (address_text r e)
+unfolding address_text
+address_no_feed r e =
+    let opened = reference_text r ++ codes "[" in
+    no_feed_behind (opened ++ expr_text e) (codes "]")
+    (no_feed_behind opened (expr_text e) (no_feed_behind (reference_text r) (codes "[") (reference_no_feed r) refl)
+    (expr_no_feed e)) refl
+
 pub value_no_feed : (value : Var) → NoFeed (value_text value)
 value_no_feed (vars.Number e) = expr_no_feed e
 value_no_feed (vars.Reference r) = reference_no_feed r
 value_no_feed vars.Text = refl
+value_no_feed (vars.Address r e) = address_no_feed r e
 
 pub name_no_feed : (args locals i : ℕ) → NoFeed (variable_name args locals i)
 unfolding variable_name

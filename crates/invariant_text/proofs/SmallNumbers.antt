@@ -51,6 +51,8 @@ small_var : (symbols references : ℕ) (v : Var) → symbols < 2 ^ 64 → refere
 small_var symbols references (vars.Number e) few_symbols few_references is = small_number symbols e few_symbols is
 small_var symbols references (vars.Reference r) few_symbols few_references is = omega (arith, few_references, is)
 small_var symbols references vars.Text few_symbols few_references is = tt
+small_var symbols references (vars.Address r e) few_symbols few_references is =
+    (omega (arith, few_references, is.0), small_number symbols e few_symbols is.1)
 
 pub small_vars : (symbols references : ℕ) (n : ℕ) (vs : List Var) → symbols < 2 ^ 64 → references < 2 ^ 64
     → AllByRecursion (IsVar symbols references) vs → AllFrom (λ k v. IsSmallVar v) n vs

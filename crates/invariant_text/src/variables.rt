@@ -3,12 +3,13 @@
 ghost use Rattle.std.specs.Prelude.{◌≡◌, ◌++◌, OnOk};
 ghost use Rattle.std.specs.Fmt.{decimal};
 ghost use Rattle.invariant_text.specs.Lines.{numbered};
-ghost use Rattle.invariant_text.specs.VariableLines.{reference_text, value_text, variable_line, variable_name};
+ghost use Rattle.invariant_text.specs.VariableLines.{address_text, reference_text, value_text};
+ghost use Rattle.invariant_text.specs.VariableLines.{variable_line, variable_name};
 
 use crate::decimals::put_decimal;
 use crate::expressions::put_expr;
 use cil_model::Unit;
-use domain_api::NoMemory;
+use domain_api::{Expr, NoMemory};
 use frame_names::Var;
 use std::alloc::Global;
 
@@ -24,6 +25,17 @@ pub(crate) fn put_reference(out: &mut Vec<u8>, r: u64) -> Result<(), NoMemory>
     put_decimal(out, r)
 }
 
+/// Appends the address of the item of an index: `r1[s2 + 1]`.
+#[tactic(auto, unfolding(crate::specs::VariableLines::address_text))]
+fn put_address(alloc: Global, out: &mut Vec<u8>, r: u64, e: Expr) -> Result<(), NoMemory>
+    ensures { OnOk result (out.new.items ≡ out.old.items ++ address_text r e) }
+{
+    put_reference(out, r)?;
+    out.extend_from_slice(b"[")?;
+    put_expr(alloc, out, e)?;
+    out.extend_from_slice(b"]")
+}
+
 /// Appends what a variable has.
 fn put_value(alloc: Global, out: &mut Vec<u8>, value: Var) -> Result<(), NoMemory>
     ensures { OnOk result (out.new.items ≡ out.old.items ++ value_text value) }
@@ -32,6 +44,7 @@ fn put_value(alloc: Global, out: &mut Vec<u8>, value: Var) -> Result<(), NoMemor
         Var::Number(e) => put_expr(alloc, out, e),
         Var::Reference(r) => put_reference(out, u64::from(r)),
         Var::Text => out.extend_from_slice(b"text"),
+        Var::Address(r, e) => put_address(alloc, out, u64::from(r), e),
     }
 }
 

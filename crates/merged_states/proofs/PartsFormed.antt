@@ -189,6 +189,10 @@ vars_there symbols references ns rs (vars.Number e ∷ vs) numbers arrays =
 vars_there symbols references ns rs (vars.Reference r ∷ vs) numbers arrays =
     (first_reference references rs arrays, vars_there symbols references ns (behind rs) vs numbers (behind_there (λ (e : Expr). e.sym ≤ references) rs arrays))
 vars_there symbols references ns rs (vars.Text ∷ vs) numbers arrays = (tt, vars_there symbols references ns rs vs numbers arrays)
+vars_there symbols references ns rs (vars.Address r e ∷ vs) numbers arrays = (
+  (first_reference references rs arrays, first_there symbols ns numbers),
+  vars_there symbols references (behind ns) (behind rs) vs (behind_there (IsNumber symbols) ns numbers) (behind_there (λ (e : Expr). e.sym ≤ references) rs arrays),
+)
 
 -- ---- pairs
 

@@ -5,12 +5,15 @@ use Rattle.frame_names.specs.declared.var.Var.TheVariants as vars
 use Rattle.state_facts.specs.Forms.{HasForm}
 use Rattle.state_facts.specs.StateFacts.{StateFacts, State, both_of_same_place, reference_at}
 
--- Both have a number or a text, or both have references, of which one is reference 0 or which have one type.
+-- Both have a number or a text, or both have references, or addresses by references, of which one is reference 0 or
+-- which have one type.
 abbrev pub IsLike : StateFacts → StateFacts → Var → Var → Type 0
 IsLike a b (vars.Number e) (vars.Number f) = Unit {0}
 IsLike a b (vars.Reference r) (vars.Reference q) =
     both_of_same_place (reference_at a.references r) (reference_at b.references q) ≡ true
 IsLike a b vars.Text vars.Text = Unit {0}
+IsLike a b (vars.Address r e) (vars.Address q f) =
+    both_of_same_place (reference_at a.references r) (reference_at b.references q) ≡ true
 IsLike a b _ _ = ⊥
 
 abbrev pub AreLike : StateFacts → StateFacts → List Var → List Var → Type 0

@@ -6,14 +6,15 @@ use Rattle.cil_model.specs.Comparisons.{number_of}
 use Rattle.cil_model.specs.Values.{Heap, IsHeap}
 use Rattle.cil_model.specs.declared.machine.Value.{Value}
 use Rattle.frame_names.specs.Frames.{reference_at}
-use Rattle.state_facts.specs.Holds.{HoldsIn}
+use Rattle.state_facts.specs.Holds.{HoldsIn, address_of}
 use Rattle.state_facts.specs.StateFacts.{StateFacts, State}
 
--- A number that a value has is an int32.
-abbrev pub IsMachineNumber : Value → Type 0
-IsMachineNumber value = (n : ℤ) → number_of value ≡ Some n → FitsSigned w32 n
+-- A number that a value has is an int32, and so is the index of an address.
+pub record IsMachineNumber (value : Value) : Type 0 where
+  pub number : (n : ℤ) → number_of value ≡ Some n → FitsSigned w32 n
+  pub index : (array : Option ℕ) (n : ℤ) → address_of value ≡ Some (array, n) → FitsSigned w32 n
 
--- The heap is one of the machine, and so are the numbers among the values.
+-- The heap is one of the machine, and so are the numbers and indices among the values.
 pub record AreOfMachine (vs : List Value) (heap : Heap) : Type 0 where
   pub numbers : AllByRecursion IsMachineNumber vs
   pub arrays : IsHeap heap

@@ -45,6 +45,9 @@ value_agrees symbols references number later array later_array (vars.Number e) x
     has ∙ ap (λ (n : ℤ). Some (n +ℤ e.k)) (sym (agree.numbers e.sym is.there))
 value_agrees symbols references number later array later_array (vars.Reference r) x agree is has = has ∙ ap (λ (a : Option ℕ). Some a) (sym (agree.arrays r is))
 value_agrees symbols references number later array later_array vars.Text x agree is has = has
+value_agrees symbols references number later array later_array (vars.Address r e) x agree is has =
+    has ∙ ap (λ (a : Option ℕ). Some (a, number e.sym +ℤ e.k)) (sym (agree.arrays r is.0))
+    ∙ ap (λ (n : ℤ). Some (later_array r, n +ℤ e.k)) (sym (agree.numbers e.sym is.1.there))
 
 pub values_agree : (symbols references : ℕ) (number later : ℕ → ℤ) (array later_array : ℕ → Option ℕ) (vs : List Var) (xs : List Value)
     → Agree symbols references number array later later_array → AllByRecursion (IsVar symbols references) vs → HaveValues number array vs xs
@@ -63,6 +66,16 @@ have_pushed number array [] [] v x have has = (has, tt)
 have_pushed number array [] (y ∷ xs) v x have has = elim have [ ]
 have_pushed number array (w ∷ vs) [] v x have has = elim have [ ]
 have_pushed number array (w ∷ vs) (y ∷ xs) v x have has = (have.0, have_pushed number array vs xs v x have.1 has)
+
+pub have_before : (number : ℕ → ℤ) (array : ℕ → Option ℕ) (vs : List Var) (xs : List Value) (v : Var) (x : Value)
+    → HaveValues number array (vs ++ v ∷ []) (xs ++ x ∷ []) → HaveValues number array vs xs × HasValue number array v x
+have_before number array [] [] v x have = (tt, have.0)
+have_before number array [] (y ∷ []) v x have = elim have.1 [ ]
+have_before number array [] (y ∷ z ∷ xs) v x have = elim have.1 [ ]
+have_before number array (w ∷ []) [] v x have = elim have.1 [ ]
+have_before number array (w ∷ u ∷ vs) [] v x have = elim have.1 [ ]
+have_before number array (w ∷ vs) (y ∷ xs) v x have =
+    let rest = have_before number array vs xs v x have.1 in ((have.0, rest.0), rest.1)
 
 pub have_set : (number : ℕ → ℤ) (array : ℕ → Option ℕ) (vs : List Var) (xs : List Value) (i : ℕ) (v : Var) (x : Value) → HaveValues number array vs xs
     → HasValue number array v x → HaveValues number array (set vs i v) (set xs i x)

@@ -43,7 +43,7 @@ use Rattle.number_spans.specs.Constants.{constant}
 use Rattle.symbolic_values.specs.Worth.{worth}
 use Rattle.state_facts.specs.Calls.{apart_from, apart_from_all, apart_with, changed_at, changed_unless, items_of, passed, returned, with_call, with_result, with_returned, without_items}
 use Rattle.state_facts.specs.Forms.{HasForm, IsArrayPlace, IsVar}
-use Rattle.state_facts.specs.Holds.{HasValue, HaveValues, HoldsBy, IsSo, FitsArray, items_of_array, length_in, length_of_array}
+use Rattle.state_facts.specs.Holds.{HasValue, HaveValues, HoldsBy, IsSo, FitsArray, address_of, items_of_array, length_in, length_of_array}
 use Rattle.state_facts.specs.Keeps.{HoldsOn, KeepsCall, KeepsNewArray, listed}
 use Rattle.state_facts.specs.Moves.{may_be_zero, with_array}
 use Rattle.state_facts.specs.StateFacts.{StateFacts, State, are_apart, both_of_same_place, nullness_at, of_same_place, reference_at}
@@ -332,6 +332,11 @@ passed_one known number array vars.Text x j q has is apart so = absurd (no_text 
   where
     no_text : values.Array j ≡ values.Text → ⊥
     no_text is = cc
+passed_one known number array (vars.Address r e) x j q has is apart so =
+    absurd (no_address (array r, worth number e) (subst (λ (y : Value). address_of y ≡ Some (array r, worth number e)) so has))
+  where
+    no_address : (at : Option ℕ × ℤ) → None ≡ Some at → ⊥
+    no_address at is = cc
 
 each_passed : (known : StateFacts) (number : ℕ → ℤ) (array : ℕ → Option ℕ) (vs : List Var) (xs : List Value) (j q : ℕ) → HaveValues number array vs xs
     → AllByRecursion (IsVar (length known.facts.ranges) (length known.references)) vs → apart_from_all known vs q ≡ true
@@ -440,9 +445,11 @@ fitting_value new places.Ints values.Null is fits = (None, refl, tt)
 fitting_value new places.Ints (values.Array i) is fits = (Some i, refl, fits)
 fitting_value new places.Bools (values.Int n) is fits = elim fits [ ]
 fitting_value new places.Bools (values.Native n) is fits = elim fits [ ]
+fitting_value new places.Bools (values.Addr a n) is fits = elim fits [ ]
 fitting_value new places.Bools values.Text is fits = elim fits [ ]
 fitting_value new places.Ints (values.Int n) is fits = elim fits [ ]
 fitting_value new places.Ints (values.Native n) is fits = elim fits [ ]
+fitting_value new places.Ints (values.Addr a n) is fits = elim fits [ ]
 fitting_value new places.Ints values.Text is fits = elim fits [ ]
 fitting_value new places.Void value is fits = elim is [ ]
 fitting_value new places.Bool value is fits = elim is [ ]
@@ -453,6 +460,7 @@ array_of_value values.Null j is = absurd cc
 array_of_value (values.Array i) j is = cc
 array_of_value (values.Int n) j is = absurd cc
 array_of_value (values.Native n) j is = absurd cc
+array_of_value (values.Addr a n) j is = absurd cc
 array_of_value values.Text j is = absurd cc
 
 have_dropped : (number : ℕ → ℤ) (array : ℕ → Option ℕ) (n : ℕ) (vs : List Var) (xs : List Value) → HaveValues number array vs xs
@@ -484,6 +492,7 @@ number_value new (values.Int n) fits = (n, refl, fits)
 number_value new (values.Native n) fits = elim fits [ ]
 number_value new values.Null fits = elim fits [ ]
 number_value new (values.Array i) fits = elim fits [ ]
+number_value new (values.Addr a n) fits = elim fits [ ]
 number_value new values.Text fits = elim fits [ ]
 
 pub byte_value : (new : Heap) (value : Value) → FitsPlace new places.Bool value → (n : ℤ) × (number_of value ≡ Some n) × IsByte n
@@ -491,6 +500,7 @@ byte_value new (values.Int n) fits = (n, refl, fits)
 byte_value new (values.Native n) fits = elim fits [ ]
 byte_value new values.Null fits = elim fits [ ]
 byte_value new (values.Array i) fits = elim fits [ ]
+byte_value new (values.Addr a n) fits = elim fits [ ]
 byte_value new values.Text fits = elim fits [ ]
 
 -- ---- what a call leaves of arrays

@@ -266,6 +266,9 @@ assumed_form op (vars.Reference r) (vars.Number b) holds known form first second
 assumed_form op (vars.Reference r) (vars.Reference q) holds known form first second = same_formed (same_flag (is_equality op) holds) known (null_tested r q) form
 assumed_form op (vars.Reference r) vars.Text holds known form first second = form
 assumed_form op vars.Text b holds known form first second = form
+assumed_form op (vars.Number a) (vars.Address q f) holds known form first second = form
+assumed_form op (vars.Reference r) (vars.Address q f) holds known form first second = form
+assumed_form op (vars.Address r e) b holds known form first second = form
 
 -- ---- reading
 
@@ -280,3 +283,4 @@ pub named_var : (known : StateFacts) (v : Var) → IsVar (length known.facts.ran
 named_var known (vars.Number e) is = is.there
 named_var known (vars.Reference r) is = tt
 named_var known vars.Text is = tt
+named_var known (vars.Address r e) is = tt

@@ -46,7 +46,7 @@ use Rattle.frame_names.specs.declared.var.Var.TheVariants as vars
 use Rattle.state_facts.proofs.ArraysHold.{nullness_agrees}
 use Rattle.state_facts.proofs.AssumptionForms.{ready_behind}
 use Rattle.state_facts.proofs.ComparisonForms.{tested_there}
-use Rattle.state_facts.proofs.ComparisonsHold.{like_number, like_reference, like_text, number_fits, numbers_compare, reference_value, tested_tells, unlike_values, value_of_reference}
+use Rattle.state_facts.proofs.ComparisonsHold.{like_address, like_itself, like_number, like_reference, like_text, number_fits, number_like, numbers_compare, reference_like, reference_value, tested_tells, unlike_values, value_of_reference}
 
 -- ---- comparisons of whole numbers
 
@@ -544,12 +544,14 @@ assumption_keeps op (vars.Reference r) (vars.Number b) so known vs heap number a
     elim (unlike_values op first second so false true true false (like_reference first (array r) has) (like_number second (worth number b) also) refl refl is) [ ]
 assumption_keeps op (vars.Reference r) vars.Text so known vs heap number array first second form one two holds has also is_value is_also is =
     elim (unlike_values op first second so false true false false (like_reference first (array r) has) (like_text second also) refl refl is) [ ]
-assumption_keeps op vars.Text (vars.Number b) so known vs heap number array first second form one two holds has also is_value is_also is =
-    elim (unlike_values op first second so false false true false (like_text first has) (like_number second (worth number b) also) refl refl is) [ ]
-assumption_keeps op vars.Text (vars.Reference q) so known vs heap number array first second form one two holds has also is_value is_also is =
-    elim (unlike_values op first second so false false false true (like_text first has) (like_reference second (array q) also) refl refl is) [ ]
-assumption_keeps op vars.Text vars.Text so known vs heap number array first second form one two holds has also is_value is_also is =
-    elim (unlike_values op first second so false false false false (like_text first has) (like_text second also) refl refl is) [ ]
+assumption_keeps op (vars.Number a) (vars.Address q f) so known vs heap number array first second form one two holds has also is_value is_also is =
+    elim (unlike_values op first second so true false false false (like_number first (worth number a) has) (like_address second (array q, worth number f) also) refl refl is) [ ]
+assumption_keeps op (vars.Reference r) (vars.Address q f) so known vs heap number array first second form one two holds has also is_value is_also is =
+    elim (unlike_values op first second so false true false false (like_reference first (array r) has) (like_address second (array q, worth number f) also) refl refl is) [ ]
+assumption_keeps op vars.Text b so known vs heap number array first second form one two holds has also is_value is_also is =
+    elim (unlike_values op first second so false false (number_like second) (reference_like second) (like_text first has) (like_itself second) refl refl is) [ ]
+assumption_keeps op (vars.Address r e) b so known vs heap number array first second form one two holds has also is_value is_also is =
+    elim (unlike_values op first second so false false (number_like second) (reference_like second) (like_address first (array r, worth number e) has) (like_itself second) refl refl is) [ ]
 
 pub assume_keeps : (op : CmpOp) (a b : Var) (holds : Bool) (state : State) → ForSome state HasForm
     → ForSome state (λ known. IsVar (length known.facts.ranges) (length known.references) a)

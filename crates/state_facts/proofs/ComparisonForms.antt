@@ -221,6 +221,9 @@ comparison_form op (vars.Reference r) (vars.Reference q) cmp known form first se
     tested_form r q (is_equality op) known (null_tested r q) form (λ n so. tested_there r q (length known.references) n first second so)
 comparison_form op (vars.Reference r) vars.Text cmp known form first second is = form
 comparison_form op vars.Text b cmp known form first second is = form
+comparison_form op (vars.Number a) (vars.Address q f) cmp known form first second is = form
+comparison_form op (vars.Reference r) (vars.Address q f) cmp known form first second is = form
+comparison_form op (vars.Address r e) b cmp known form first second is = form
 
 pub compared_formed : (op : BinOp) (a b : Var) (known : StateFacts) → IsSome (comparison_of op) → HasForm known
     → IsVar (length known.facts.ranges) (length known.references) a → IsVar (length known.facts.ranges) (length known.references) b

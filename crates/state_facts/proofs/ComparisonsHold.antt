@@ -31,7 +31,7 @@ use Rattle.symbolic_values.specs.Worth.{worth}
 use Rattle.symbolic_values.specs.declared.def.Def.TheVariants.{NullTest}
 use Rattle.state_facts.specs.Comparing.{is_array, is_equality, is_not_null, null_known, null_tested, same_known, truth_expr, with_comparison, with_defined, with_known, with_null_known, with_null_test, with_same, with_same_known, with_tested, with_truth}
 use Rattle.state_facts.specs.Forms.{HasForm, IsVar}
-use Rattle.state_facts.specs.Holds.{HasValue, HoldsBy}
+use Rattle.state_facts.specs.Holds.{HasValue, HoldsBy, address_of}
 use Rattle.state_facts.specs.Keeps.{HoldsOn, KeepsComparison}
 use Rattle.state_facts.specs.StateFacts.{StateFacts, State, are_apart, nullness_at}
 use Rattle.state_facts.specs.States as calls
@@ -56,6 +56,7 @@ number_fits heap (values.Int m) n is has = subst (FitsSigned w32) (some_same m n
 number_fits heap (values.Native m) n is has = subst (FitsSigned w32) (some_same (pos m) n has) (omega (arith, ints, is))
 number_fits heap values.Null n is has = absurd (none_some n has)
 number_fits heap (values.Array i) n is has = absurd (none_some n has)
+number_fits heap (values.Addr a k) n is has = absurd (none_some n has)
 number_fits heap values.Text n is has = absurd (none_some n has)
 
 pushed_is : (cmp : CmpOp) (x y : Value) (m : ℤ) → number_of x ≡ Some m → pushed_comparison cmp x y ≡ compares_values cmp x y
@@ -70,6 +71,7 @@ pushed_is comparisons.LeUn x y m has = refl
 pushed_is comparisons.LtUn x y m has = refl
 pushed_is comparisons.GtUn (values.Int n) y m has = refl
 pushed_is comparisons.GtUn (values.Native n) y m has = refl
+pushed_is comparisons.GtUn (values.Addr a k) y m has = refl
 pushed_is comparisons.GtUn values.Text y m has = refl
 pushed_is comparisons.GtUn values.Null y m has = absurd (none_some m has)
 pushed_is comparisons.GtUn (values.Array i) y m has = absurd (none_some m has)
@@ -107,6 +109,7 @@ value_of_reference (values.Array i) None is = absurd cc
 value_of_reference (values.Array i) (Some j) is = cc
 value_of_reference (values.Int n) a is = absurd (none_some a is)
 value_of_reference (values.Native n) a is = absurd (none_some a is)
+value_of_reference (values.Addr b n) a is = absurd (none_some a is)
 value_of_reference values.Text a is = absurd (none_some a is)
 
 flag_true : (so b : Bool) → Some b ≡ Some so → so ≡ same_flag b true
@@ -315,12 +318,12 @@ references_keep op r q known vs heap number array first second cmp so form one t
 
 -- ---- values that may not be compared
 
-abbrev number_like : Value → Bool
+abbrev pub number_like : Value → Bool
 number_like (values.Int n) = true
 number_like (values.Native n) = true
 number_like _ = false
 
-abbrev reference_like : Value → Bool
+abbrev pub reference_like : Value → Bool
 reference_like values.Null = true
 reference_like (values.Array i) = true
 reference_like _ = false
@@ -336,31 +339,22 @@ pushed_other comparisons.NeUn x y is = refl
 pushed_other comparisons.GeUn x y is = refl
 pushed_other comparisons.LeUn x y is = refl
 pushed_other comparisons.LtUn x y is = refl
-pushed_other comparisons.GtUn (values.Int m) (values.Int n) is = refl
-pushed_other comparisons.GtUn (values.Native m) (values.Int n) is = refl
+pushed_other comparisons.GtUn (values.Int m) y is = refl
+pushed_other comparisons.GtUn (values.Native m) y is = refl
+pushed_other comparisons.GtUn (values.Addr m k) y is = refl
+pushed_other comparisons.GtUn values.Text y is = refl
 pushed_other comparisons.GtUn values.Null (values.Int n) is = refl
-pushed_other comparisons.GtUn (values.Array m) (values.Int n) is = refl
-pushed_other comparisons.GtUn values.Text (values.Int n) is = refl
-pushed_other comparisons.GtUn (values.Int m) (values.Native n) is = refl
-pushed_other comparisons.GtUn (values.Native m) (values.Native n) is = refl
 pushed_other comparisons.GtUn values.Null (values.Native n) is = refl
-pushed_other comparisons.GtUn (values.Array m) (values.Native n) is = refl
-pushed_other comparisons.GtUn values.Text (values.Native n) is = refl
-pushed_other comparisons.GtUn (values.Int m) values.Text is = refl
-pushed_other comparisons.GtUn (values.Native m) values.Text is = refl
+pushed_other comparisons.GtUn values.Null (values.Addr n k) is = refl
 pushed_other comparisons.GtUn values.Null values.Text is = refl
-pushed_other comparisons.GtUn (values.Array m) values.Text is = refl
-pushed_other comparisons.GtUn values.Text values.Text is = refl
-pushed_other comparisons.GtUn (values.Int m) values.Null is = absurd (false≢true (sym is))
-pushed_other comparisons.GtUn (values.Int m) (values.Array n) is = absurd (false≢true (sym is))
-pushed_other comparisons.GtUn (values.Native m) values.Null is = absurd (false≢true (sym is))
-pushed_other comparisons.GtUn (values.Native m) (values.Array n) is = absurd (false≢true (sym is))
 pushed_other comparisons.GtUn values.Null values.Null is = absurd (false≢true (sym is))
 pushed_other comparisons.GtUn values.Null (values.Array n) is = absurd (false≢true (sym is))
+pushed_other comparisons.GtUn (values.Array m) (values.Int n) is = refl
+pushed_other comparisons.GtUn (values.Array m) (values.Native n) is = refl
+pushed_other comparisons.GtUn (values.Array m) (values.Addr n k) is = refl
+pushed_other comparisons.GtUn (values.Array m) values.Text is = refl
 pushed_other comparisons.GtUn (values.Array m) values.Null is = absurd (false≢true (sym is))
 pushed_other comparisons.GtUn (values.Array m) (values.Array n) is = absurd (false≢true (sym is))
-pushed_other comparisons.GtUn values.Text values.Null is = absurd (false≢true (sym is))
-pushed_other comparisons.GtUn values.Text (values.Array n) is = absurd (false≢true (sym is))
 
 pushed_number : (cmp : CmpOp) (x y : Value) → reference_like x ≡ false → pushed_comparison cmp x y ≡ compares_values cmp x y
 pushed_number comparisons.Eq x y is = refl
@@ -374,6 +368,7 @@ pushed_number comparisons.LeUn x y is = refl
 pushed_number comparisons.LtUn x y is = refl
 pushed_number comparisons.GtUn (values.Int m) y is = refl
 pushed_number comparisons.GtUn (values.Native m) y is = refl
+pushed_number comparisons.GtUn (values.Addr m k) y is = refl
 pushed_number comparisons.GtUn values.Text y is = refl
 pushed_number comparisons.GtUn values.Null y is = absurd (false≢true (sym is))
 pushed_number comparisons.GtUn (values.Array m) y is = absurd (false≢true (sym is))
@@ -384,27 +379,28 @@ mixed_values cmp (values.Int m) (values.Int n) so numbers references is = false�
 mixed_values cmp (values.Int m) (values.Native n) so numbers references is = false≢true (sym numbers)
 mixed_values cmp (values.Int m) values.Null so numbers references is = none_some so is
 mixed_values cmp (values.Int m) (values.Array n) so numbers references is = none_some so is
+mixed_values cmp (values.Int m) (values.Addr n k) so numbers references is = none_some so is
 mixed_values cmp (values.Int m) values.Text so numbers references is = none_some so is
 mixed_values cmp (values.Native m) (values.Int n) so numbers references is = false≢true (sym numbers)
 mixed_values cmp (values.Native m) (values.Native n) so numbers references is = false≢true (sym numbers)
 mixed_values cmp (values.Native m) values.Null so numbers references is = none_some so is
 mixed_values cmp (values.Native m) (values.Array n) so numbers references is = none_some so is
+mixed_values cmp (values.Native m) (values.Addr n k) so numbers references is = none_some so is
 mixed_values cmp (values.Native m) values.Text so numbers references is = none_some so is
 mixed_values cmp values.Null (values.Int n) so numbers references is = none_some so is
 mixed_values cmp values.Null (values.Native n) so numbers references is = none_some so is
 mixed_values cmp values.Null values.Null so numbers references is = false≢true (sym references)
 mixed_values cmp values.Null (values.Array n) so numbers references is = false≢true (sym references)
+mixed_values cmp values.Null (values.Addr n k) so numbers references is = none_some so is
 mixed_values cmp values.Null values.Text so numbers references is = none_some so is
 mixed_values cmp (values.Array m) (values.Int n) so numbers references is = none_some so is
 mixed_values cmp (values.Array m) (values.Native n) so numbers references is = none_some so is
 mixed_values cmp (values.Array m) values.Null so numbers references is = false≢true (sym references)
 mixed_values cmp (values.Array m) (values.Array n) so numbers references is = false≢true (sym references)
+mixed_values cmp (values.Array m) (values.Addr n k) so numbers references is = none_some so is
 mixed_values cmp (values.Array m) values.Text so numbers references is = none_some so is
-mixed_values cmp values.Text (values.Int n) so numbers references is = none_some so is
-mixed_values cmp values.Text (values.Native n) so numbers references is = none_some so is
-mixed_values cmp values.Text values.Null so numbers references is = none_some so is
-mixed_values cmp values.Text (values.Array n) so numbers references is = none_some so is
-mixed_values cmp values.Text values.Text so numbers references is = none_some so is
+mixed_values cmp (values.Addr m k) y so numbers references is = none_some so is
+mixed_values cmp values.Text y so numbers references is = none_some so is
 
 mixed : (cmp : CmpOp) (x y : Value) (so : Bool) → (number_like x && number_like y) ≡ false → (reference_like x && reference_like y) ≡ false
     → pushed_comparison cmp x y ≡ Some so → ⊥
@@ -423,6 +419,7 @@ like_number (values.Int m) n is = record { number_is = refl; reference_is = refl
 like_number (values.Native m) n is = record { number_is = refl; reference_is = refl }
 like_number values.Null n is = absurd (none_some n is)
 like_number (values.Array i) n is = absurd (none_some n is)
+like_number (values.Addr a k) n is = absurd (none_some n is)
 like_number values.Text n is = absurd (none_some n is)
 
 pub like_reference : (x : Value) (a : Option ℕ) → reference_of x ≡ Some a → IsLike x false true
@@ -430,10 +427,22 @@ like_reference (values.Int m) a is = absurd (none_some a is)
 like_reference (values.Native m) a is = absurd (none_some a is)
 like_reference values.Null a is = record { number_is = refl; reference_is = refl }
 like_reference (values.Array i) a is = record { number_is = refl; reference_is = refl }
+like_reference (values.Addr b n) a is = absurd (none_some a is)
 like_reference values.Text a is = absurd (none_some a is)
 
 pub like_text : (x : Value) → x ≡ values.Text → IsLike x false false
 like_text x is = record { number_is = ap number_like is; reference_is = ap reference_like is }
+
+pub like_address : (x : Value) (at : Option ℕ × ℤ) → address_of x ≡ Some at → IsLike x false false
+like_address (values.Addr a n) at is = record { number_is = refl; reference_is = refl }
+like_address (values.Int n) at is = absurd (none_some at is)
+like_address (values.Native n) at is = absurd (none_some at is)
+like_address values.Null at is = absurd (none_some at is)
+like_address (values.Array a) at is = absurd (none_some at is)
+like_address values.Text at is = absurd (none_some at is)
+
+pub like_itself : (x : Value) → IsLike x (number_like x) (reference_like x)
+like_itself x = record { number_is = refl; reference_is = refl }
 
 pub unlike : (cmp : CmpOp) (x y : Value) (so p q r t : Bool) → IsLike x p q → IsLike y r t → (p && r) ≡ false → (q && t) ≡ false
     → pushed_comparison cmp x y ≡ Some so → ⊥
@@ -464,12 +473,14 @@ comparison_keeps op (vars.Reference r) (vars.Number b) known vs heap number arra
     elim (unlike cmp first second so false true true false (like_reference first (array r) has) (like_number second (worth number b) also) refl refl pushes) [ ]
 comparison_keeps op (vars.Reference r) vars.Text known vs heap number array first second cmp so form one two holds has also is_value is_also is pushes =
     elim (unlike cmp first second so false true false false (like_reference first (array r) has) (like_text second also) refl refl pushes) [ ]
-comparison_keeps op vars.Text (vars.Number b) known vs heap number array first second cmp so form one two holds has also is_value is_also is pushes =
-    elim (unlike cmp first second so false false true false (like_text first has) (like_number second (worth number b) also) refl refl pushes) [ ]
-comparison_keeps op vars.Text (vars.Reference q) known vs heap number array first second cmp so form one two holds has also is_value is_also is pushes =
-    elim (unlike cmp first second so false false false true (like_text first has) (like_reference second (array q) also) refl refl pushes) [ ]
-comparison_keeps op vars.Text vars.Text known vs heap number array first second cmp so form one two holds has also is_value is_also is pushes =
-    elim (unlike cmp first second so false false false false (like_text first has) (like_text second also) refl refl pushes) [ ]
+comparison_keeps op (vars.Number a) (vars.Address q f) known vs heap number array first second cmp so form one two holds has also is_value is_also is pushes =
+    elim (unlike cmp first second so true false false false (like_number first (worth number a) has) (like_address second (array q, worth number f) also) refl refl pushes) [ ]
+comparison_keeps op (vars.Reference r) (vars.Address q f) known vs heap number array first second cmp so form one two holds has also is_value is_also is pushes =
+    elim (unlike cmp first second so false true false false (like_reference first (array r) has) (like_address second (array q, worth number f) also) refl refl pushes) [ ]
+comparison_keeps op vars.Text b known vs heap number array first second cmp so form one two holds has also is_value is_also is pushes =
+    elim (unlike cmp first second so false false (number_like second) (reference_like second) (like_text first has) (like_itself second) refl refl pushes) [ ]
+comparison_keeps op (vars.Address r e) b known vs heap number array first second cmp so form one two holds has also is_value is_also is pushes =
+    elim (unlike cmp first second so false false (number_like second) (reference_like second) (like_address first (array r, worth number e) has) (like_itself second) refl refl pushes) [ ]
 
 pub compare_keeps : (op : BinOp) (a b : Var) (state : State) → ForSome state HasForm
     → ForSome state (λ known. IsVar (length known.facts.ranges) (length known.references) a)

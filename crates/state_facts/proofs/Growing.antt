@@ -50,6 +50,7 @@ pub var_stays : (m n r q : ℕ) (v : Var) → m ≤ n → r ≤ q → IsVar m r 
 var_stays m n r q (vars.Number e) more others is = number_stays m n e more is
 var_stays m n r q (vars.Reference x) more others is = omega (arith, others, is)
 var_stays m n r q vars.Text more others is = tt
+var_stays m n r q (vars.Address x e) more others is = (omega (arith, others, is.0), number_stays m n e more is.1)
 
 reference_stays : (m n : ℕ) (r : Reference) → m ≤ n → IsReference m r → IsReference n r
 reference_stays m n r more is = record { place = is.place; length_is = number_stays m n r.length more is.length_is }

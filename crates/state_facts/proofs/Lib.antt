@@ -17,3 +17,4 @@ pub mod ResultForms
 pub mod ResultsHold
 pub mod UnknownSpans
 pub mod UnknownValues
+pub mod UnknownAddresses

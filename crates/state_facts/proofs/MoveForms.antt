@@ -91,6 +91,7 @@ unfolding with_put
 put_form i (vars.Number e) place known form is = with_placed_form i e place known form is
 put_form i (vars.Reference r) place known form is = set_form i (vars.Reference r) known form is
 put_form i vars.Text place known form is = set_form i vars.Text known form is
+put_form i (vars.Address r e) place known form is = set_form i (vars.Address r e) known form is
 
 -- ---- arrays
 
@@ -194,14 +195,18 @@ apart_with_ends test n (suc q) pairs there all =
     (λ apart. cond_both (is_proper (ordered n (suc q))) _ _ (AllByRecursion (EndsBy n)) (λ proper. inserted_ends n (ordered n (suc q)) _ (ordered_ends n (suc q) there) rest) (λ not. rest))
     (λ not. rest)
 
+pub returned_formed : (apart : List Pair) (place : Place) (known : StateFacts) (made : Made) → HasForm known → IsArrayPlace place
+    → AllByRecursion (EndsBy (length known.references + 1)) apart → IsMade known.facts made → HasForm (returned apart place known made)
+returned_formed apart place known made form fits ends is =
+    with_reference known made.facts _ apart _ form (made_grows known made form is) (record { place = fits; length_is = is.number }) ends
+    (whole_formed (length made.facts.ranges) made.expr (items_of place) true is.number.there (items_narrow place))
+
 pub returned_form : (apart : List Pair) (place : Place) (known : StateFacts) → HasForm known → IsArrayPlace place
     → AllByRecursion (EndsBy (length known.references + 1)) apart → Formed (with_returned apart place known)
 unfolding with_returned
 returned_form apart place known form fits ends =
     each_formed known.facts (fresh known.facts (pos 0) (pos 2147483647) None []) (returned apart place known) (fresh_made known.facts (pos 0) (pos 2147483647))
-    (λ made is.
-    with_reference known made.facts _ apart _ form (made_grows known made form is) (record { place = fits; length_is = is.number }) ends
-    (whole_formed (length made.facts.ranges) made.expr (items_of place) true is.number.there (items_narrow place)))
+    (λ made is. returned_formed apart place known made form fits ends is)
 
 pub result_form : (first args : ℕ) (place : Place) (known : StateFacts) → HasForm known → IsArrayPlace place → Formed (with_result_array first args place known)
 result_form first args place known form fits =

@@ -23,7 +23,7 @@ use Rattle.number_facts.specs.Fresh.{Made, expr_made, facts_made, fresh}
 use Rattle.number_facts.specs.Holds.{AreNamed, Holds, HoldsWith, YieldsSome}
 use Rattle.symbolic_values.specs.Worth.{worth}
 use Rattle.state_facts.specs.Forms.{HasForm, IsNumber, IsVar}
-use Rattle.state_facts.specs.Holds.{HasValue, HaveValues, HoldsBy}
+use Rattle.state_facts.specs.Holds.{HasValue, HaveValues, HoldsBy, address_of}
 use Rattle.state_facts.specs.Keeps.{HoldsOn, KeepsPop, KeepsPush, KeepsPut}
 use Rattle.state_facts.specs.Moves.{in_variable, is_byte, on_top, placed, popped, with_number, with_placed, with_put}
 use Rattle.state_facts.specs.StateFacts.{StateFacts, State}
@@ -172,6 +172,7 @@ put_made places.Bools known i e vs heap number array (values.Native n) stored fo
 put_made places.Ints known i e vs heap number array (values.Native n) stored form named holds has is = elim (no_value stored is) [ ]
 put_made place known i e vs heap number array values.Null stored form named holds has is = elim (no_value _ has) [ ]
 put_made place known i e vs heap number array (values.Array a) stored form named holds has is = elim (no_value _ has) [ ]
+put_made place known i e vs heap number array (values.Addr a n) stored form named holds has is = elim (no_value _ has) [ ]
 put_made place known i e vs heap number array values.Text stored form named holds has is = elim (no_value _ has) [ ]
 
 -- a reference is put as it is
@@ -193,6 +194,7 @@ put_reference places.Bool heap (values.Array i) stored a has is = elim (no_value
 put_reference places.Int heap (values.Array i) stored a has is = elim (no_value stored is) [ ]
 put_reference place heap (values.Int n) stored a has is = elim (no_value a has) [ ]
 put_reference place heap (values.Native n) stored a has is = elim (no_value a has) [ ]
+put_reference place heap (values.Addr b n) stored a has is = elim (no_value a has) [ ]
 put_reference place heap values.Text stored a has is = elim (no_value a has) [ ]
 
 no_text : (place : Place) (heap : Heap) (stored : Value) → machine.put heap place values.Text ≡ Some stored → ⊥
@@ -201,6 +203,19 @@ no_text places.Bool heap stored is = no_value stored is
 no_text places.Int heap stored is = no_value stored is
 no_text places.Bools heap stored is = no_value stored is
 no_text places.Ints heap stored is = no_value stored is
+
+no_address : (place : Place) (heap : Heap) (value stored : Value) (x : Option ℕ × ℤ) → address_of value ≡ Some x
+    → machine.put heap place value ≡ Some stored → ⊥
+no_address places.Void heap (values.Addr a n) stored x has is = no_value stored is
+no_address places.Bool heap (values.Addr a n) stored x has is = no_value stored is
+no_address places.Int heap (values.Addr a n) stored x has is = no_value stored is
+no_address places.Bools heap (values.Addr a n) stored x has is = no_value stored is
+no_address places.Ints heap (values.Addr a n) stored x has is = no_value stored is
+no_address place heap (values.Int n) stored x has is = no_value x has
+no_address place heap (values.Native n) stored x has is = no_value x has
+no_address place heap values.Null stored x has is = no_value x has
+no_address place heap (values.Array a) stored x has is = no_value x has
+no_address place heap values.Text stored x has is = no_value x has
 
 pub same_choice : (known after : StateFacts) (vs : List Value) (heap : Heap) (number : ℕ → ℤ) (array : ℕ → Option ℕ) → HoldsBy after vs heap number array
     → HoldsOn (Some known) (Some after) vs heap number array
@@ -230,6 +245,8 @@ with_put_keeps i (vars.Reference r) place known vs heap number array value store
     set_keeps i (vars.Reference r) known vs heap number array stored holds (subst (λ (x : Value). reference_of x ≡ Some (array r)) same has)
 with_put_keeps i vars.Text place known vs heap number array value stored form named holds has is =
     elim (no_text place heap stored (subst (λ (x : Value). machine.put heap place x ≡ Some stored) has is)) [ ]
+with_put_keeps i (vars.Address r e) place known vs heap number array value stored form named holds has is =
+    elim (no_address place heap value stored (array r, worth number e) has is) [ ]
 
 pub put_keeps : (i : ℕ) (v : Var) (place : Place) (state : State) → ForSome state HasForm
     → ForSome state (λ known. IsVar (length known.facts.ranges) (length known.references) v) → KeepsPut i v place state (calls.put i v place state)

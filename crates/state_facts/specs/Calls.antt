@@ -18,10 +18,12 @@ use Rattle.state_facts.specs.StateFacts.{StateFacts, are_apart, reference_at}
 use Rattle.frame_names.specs.declared.var.Var.{Var}
 use Rattle.frame_names.specs.declared.var.Var.TheVariants as vars
 
--- A reference is known not to be the array that is passed, if one is.
+-- A reference is known not to be the array that is passed, if one is. A text or an address is never passed.
 abbrev pub apart_from : StateFacts → ℕ → Var → Bool
 apart_from known q (vars.Reference r) = are_apart known q r
-apart_from known q _ = true
+apart_from known q (vars.Number e) = true
+apart_from known q vars.Text = true
+apart_from known q (vars.Address r e) = true
 
 -- It is known to be none of the arrays that are passed.
 abbrev pub apart_from_all : StateFacts → List Var → ℕ → Bool

@@ -26,6 +26,7 @@ abbrev pub IsVar : (symbols references : ℕ) → Var → Type 0
 IsVar symbols references (vars.Number e) = IsNumber symbols e
 IsVar symbols references (vars.Reference r) = r ≤ references
 IsVar symbols references vars.Text = Unit {0}
+IsVar symbols references (vars.Address r e) = (r ≤ references) × IsNumber symbols e
 
 abbrev pub IsArrayPlace : Place → Type 0
 IsArrayPlace places.Bools = Unit {0}

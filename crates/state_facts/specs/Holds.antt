@@ -21,12 +21,23 @@ use Rattle.frame_names.specs.declared.var.Var.TheVariants as vars
 
 -- ---- variables
 
--- A variable has the value of its expression, or is its reference, or a text, where each symbol is a number and each
--- reference is null or the array of a number.
+-- The array of an address, as reference_of gives that of a reference, and the index of its item.
+abbrev pub address_of : Value → Option (Option ℕ × ℤ)
+address_of (values.Int n) = None
+address_of (values.Native n) = None
+address_of values.Null = None
+address_of (values.Array a) = None
+address_of (values.Addr a n) = Some (Some a, pos n)
+address_of values.Text = None
+
+-- A variable has the value of its expression, or is its reference, or a text, or the address of the item that its
+-- expression is worth, in the array that its reference is, where each symbol is a number and each reference is null or
+-- the array of a number.
 abbrev pub HasValue : (ℕ → ℤ) → (ℕ → Option ℕ) → Var → Value → Type 0
 HasValue number array (vars.Number e) value = number_of value ≡ Some (worth number e)
 HasValue number array (vars.Reference r) value = reference_of value ≡ Some (array r)
 HasValue number array vars.Text value = value ≡ values.Text
+HasValue number array (vars.Address r e) value = address_of value ≡ Some (array r, worth number e)
 
 abbrev pub HaveValues : (ℕ → ℤ) → (ℕ → Option ℕ) → List Var → List Value → Type 0
 HaveValues number array [] [] = Unit {0}

@@ -63,15 +63,23 @@ in_variable known i made =
 unfoldable pub with_placed : ℕ → Expr → Place → StateFacts → Option StateFacts
 with_placed i e place known = option_map (in_variable known i) (placed known.facts e place)
 
--- A value is put into the place of a variable.
+-- A variable has this.
+abbrev pub with_set : ℕ → Var → StateFacts → Option StateFacts
+with_set i v known = Some (record known { variables = set known.variables i v })
+
+-- A value is put into the place of a variable. No place takes a text or an address.
 unfoldable pub with_put : ℕ → Var → Place → StateFacts → Option StateFacts
 with_put i (vars.Number e) place known = with_placed i e place known
-with_put i v place known = Some (record known { variables = set known.variables i v })
+with_put i (vars.Reference r) place known = with_set i (vars.Reference r) known
+with_put i vars.Text place known = with_set i vars.Text known
+with_put i (vars.Address r e) place known = with_set i (vars.Address r e) known
 
--- The symbol of a number is there.
+-- The symbol of a number is there. That of an address is not asked for, since none is computed with.
 abbrev pub IsNamedNumber : StateFacts → Var → Type 0
 IsNamedNumber known (vars.Number e) = IsNamed known.facts e
-IsNamedNumber known _ = Unit {0}
+IsNamedNumber known (vars.Reference r) = Unit {0}
+IsNamedNumber known vars.Text = Unit {0}
+IsNamedNumber known (vars.Address r e) = Unit {0}
 
 -- ---- arrays
 

@@ -286,7 +286,7 @@ impl Known {
                 q,
                 (op == CmpOp::Eq) == holds,
             )),
-            _ => Ok(true),
+            (Var::Number(_) | Var::Reference(_) | Var::Text | Var::Address(..), _) => Ok(true),
         }
     }
 }

@@ -1,6 +1,6 @@
 //! What a call leaves.
 
-ghost use Rattle.std.specs.Prelude.{◌≡◌, ◌≤◌, ◌+◌, true, length, map, IfOk, OnOk, OnErr, Some, is_some};
+ghost use Rattle.std.specs.Prelude.{◌≡◌, ◌≤◌, ◌+◌, ◌++◌, ◌∷◌, [], true, length, map, IfOk, OnOk, OnErr, Some, is_some};
 ghost use Rattle.std.specs.List.{range_with_len};
 ghost use Rattle.state_facts.specs.Calls as rule;
 
@@ -30,7 +30,7 @@ impl Known {
     {
         match passed {
             Var::Reference(r) => self.is_apart(q, *r),
-            _ => true,
+            Var::Number(_) | Var::Text | Var::Address(..) => true,
         }
     }
 
@@ -88,13 +88,19 @@ impl Known {
         })
     }
 
-    /// Pushes an array of which only its length and its place are known, where these pairs are apart.
-    fn push_array(&mut self, apart: Apart, place: Place, length: Expr) -> Result<(), NoMemory>
-        ensures ok { OnOk result (self.new ≡ rule.returned apart place self.old
-            (record { expr = length; facts = self.old.facts })) }
+    /// Makes a reference to an array of which only its length and its place are known, where these pairs are apart.
+    /// Pushes what names it.
+    pub(crate) fn push_naming(
+        &mut self,
+        apart: Apart,
+        place: Place,
+        length: Expr,
+        naming: Var,
+    ) -> Result<(), NoMemory>
+        ensures ok { OnOk result (self.new ≡ record (rule.returned apart place self.old
+            (record { expr = length; facts = self.old.facts })) { variables = self.old.variables ++ naming ∷ [] }) }
         ensures err { OnErr result (self.new ≡ self.old) }
     {
-        let r = self.next_reference()?;
         self.variables.reserve(1)?;
         self.references.reserve(1)?;
         self.contents
@@ -104,7 +110,7 @@ impl Known {
             nullness: Nullness::May,
             length,
         })?;
-        self.variables.push(Var::Reference(r))?;
+        self.variables.push(naming)?;
         self.apart = apart;
         Ok(())
     }
@@ -118,11 +124,12 @@ impl Known {
         ensures ok { IfOk result (λ reached. reached ≡ true → rule.with_returned apart place self.old ≡ Some self.new) }
         ensures err { OnErr result (self.new ≡ self.old) }
     {
+        let r = self.next_reference()?;
         let before = self.numbers.copy(*self.variables.allocator())?;
         let Some(length) = self.numbers.fresh(0, 2_147_483_647, None)? else {
             return Ok(false);
         };
-        match self.push_array(apart, place, length) {
+        match self.push_naming(apart, place, length, Var::Reference(r)) {
             Ok(()) => Ok(true),
             Err(refused) => {
                 self.numbers = before;

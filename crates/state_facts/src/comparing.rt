@@ -168,7 +168,7 @@ impl Known {
                 }
                 None => self.push_same(r, q, op == BinOp::Ceq),
             },
-            _ => Ok(true),
+            (Var::Number(_) | Var::Reference(_) | Var::Text | Var::Address(..), _) => Ok(true),
         }
     }
 }

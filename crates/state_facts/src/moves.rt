@@ -104,7 +104,7 @@ impl Known {
     {
         match v {
             Var::Number(e) => self.put_number(i, e, place),
-            _ => {
+            Var::Reference(_) | Var::Text | Var::Address(..) => {
                 self.variables[i] = v;
                 Ok(true)
             }

@@ -1,10 +1,11 @@
 //! Values of which little is known.
 
-ghost use Rattle.std.specs.Prelude.{◌≡◌, true, [], IfOk, OnErr, OnOk, Some, is_some};
+ghost use Rattle.std.specs.Prelude.{◌≡◌, ◌+◌, true, [], length, IfOk, OnErr, OnOk, Some, is_some};
 ghost use Rattle.number_facts.specs.Fresh.{expr_made, facts_made, fresh};
 ghost use Rattle.state_facts.specs.UnknownValues as rule;
 
 use crate::known::Known;
+use alias_facts::Apart;
 use cil_model::Place;
 use domain_api::{Expr, NoMemory};
 use frame_names::Var;
@@ -69,6 +70,52 @@ impl Known {
             Place::Bools | Place::Ints => {
                 let apart = self.apart.copy(*self.variables.allocator())?;
                 self.push_returned(apart, place)
+            }
+        }
+    }
+
+    /// Pushes the address of an item of an array of a type, of which no more is known, where these pairs are apart and
+    /// the array's reference is this one. After an error numbers alone may have changed.
+    #[tactic(auto, unfolding(crate::specs::Calls::with_returned, crate::specs::UnknownValues::with_unknown_address))]
+    fn push_address(&mut self, apart: Apart, r: u32, place: Place) -> Result<bool, NoMemory>
+        requires apart { apart ≡ self.old.apart }
+        requires reference { r ≡ length self.old.references + 1 }
+        ensures reached { IfOk result (λ reached. reached ≡ is_some (rule.with_unknown_address place self.old)) }
+        ensures ok { IfOk result (λ reached. reached ≡ true →
+            rule.with_unknown_address place self.old ≡ Some self.new) }
+        ensures err { OnErr result (record self.new { facts = self.old.facts } ≡ self.old) }
+    {
+        let Some(length) = self.numbers.fresh(0, 2_147_483_647, None)? else {
+            return Ok(false);
+        };
+        let Some(index) = self.numbers.fresh(0, 2_147_483_647, None)? else {
+            return Ok(false);
+        };
+        self.push_naming(apart, place, length, Var::Address(r, index))?;
+        Ok(true)
+    }
+
+    /// Pushes the address of an item of an array of a type, of which no more is known. False: nothing is reached.
+    ///
+    /// Cost: what is known of numbers is copied, and put back where memory runs out.
+    ///
+    /// # Errors
+    ///
+    /// Want of memory leaves what was known.
+    pub fn push_unknown_address(&mut self, place: Place) -> Result<bool, NoMemory>
+        ensures reached { IfOk result (λ reached. reached ≡ is_some (rule.with_unknown_address place self.old)) }
+        ensures ok { IfOk result (λ reached. reached ≡ true →
+            rule.with_unknown_address place self.old ≡ Some self.new) }
+        ensures err { OnErr result (self.new ≡ self.old) }
+    {
+        let r = self.next_reference()?;
+        let apart = self.apart.copy(*self.variables.allocator())?;
+        let before = self.numbers.copy(*self.variables.allocator())?;
+        match self.push_address(apart, r, place) {
+            Ok(reached) => Ok(reached),
+            Err(refused) => {
+                self.numbers = before;
+                Err(refused)
             }
         }
     }

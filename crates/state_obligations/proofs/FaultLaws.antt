@@ -10,7 +10,7 @@ use Rattle.std.proofs.lemmas.Int.{ints}
 use Rattle.cc_base.specs.Wrap.{wrap32}
 use Rattle.cil_model.specs.Arithmetic.{GREATEST, LEAST, divided, divided_unsigned, exact, operated, shifted, signed, unsigned}
 use Rattle.cil_model.specs.Comparisons.{number_of, reference_of}
-use Rattle.cil_model.specs.Effects.{Effect, Faults, GoesOn, HasEffect, arithmetic, array_length, at_index, gives, goes_on, item_of, item_value, loads, new_array, of_place, pushes, stores, tests_condition, with_item}
+use Rattle.cil_model.specs.Effects.{Effect, Faults, GoesOn, HasEffect, addresses, arithmetic, array_length, at_index, gives, goes_on, item_of, item_value, loads, new_array, of_place, pushes, stores, tests_condition, with_item}
 use Rattle.cil_model.specs.Values.{Heap, has_array, same_place}
 use Rattle.cil_model.specs.declared.instruction.BinOp.{BinOp}
 use Rattle.cil_model.specs.declared.instruction.BinOp.TheVariants as operators
@@ -273,6 +273,7 @@ length_effects r i f heap number array (values.Array a) rest is =
     )
 length_effects r i f heap number array (values.Int n) rest is = absurd cc
 length_effects r i f heap number array (values.Native n) rest is = absurd cc
+length_effects r i f heap number array (values.Addr a n) rest is = absurd cc
 length_effects r i f heap number array values.Text rest is = absurd cc
 
 null_effects : (r : ℕ) (e : Expr) (heap : Heap) (number : ℕ → ℤ) (array : ℕ → Option ℕ) → Some None ≡ Some (array r)
@@ -354,6 +355,7 @@ load_effects place r e i f heap number array (values.Array a) rest is fits =
     (λ cell. pushes_no_fault i f heap rest _)
 load_effects place r e i f heap number array (values.Int n) rest is fits = absurd cc
 load_effects place r e i f heap number array (values.Native n) rest is fits = absurd cc
+load_effects place r e i f heap number array (values.Addr a n) rest is fits = absurd cc
 load_effects place r e i f heap number array values.Text rest is fits = absurd cc
 
 -- An item that is stored.
@@ -371,7 +373,24 @@ store_effects place r e v i f heap number array (values.Array a) rest is fits =
     (subst (FitsArray heap place) found fits) (λ cell. one_goes_on _ _)
 store_effects place r e v i f heap number array (values.Int n) rest is fits = absurd cc
 store_effects place r e v i f heap number array (values.Native n) rest is fits = absurd cc
+store_effects place r e v i f heap number array (values.Addr a n) rest is fits = absurd cc
 store_effects place r e v i f heap number array values.Text rest is fits = absurd cc
+
+-- An item whose address is taken.
+pub address_effects : (place : Place) (r : ℕ) (e : Expr) (i : Instr) (f : Frame) (heap : Heap) (number : ℕ → ℤ)
+    (array : ℕ → Option ℕ) (value : Value) (rest : List Value)
+    → reference_of value ≡ Some (array r) → FitsArray heap place (array r)
+    → EffectsFaultWhereUnmet (conditions_of (operations.Element r e)) heap number array
+    (addresses place i f heap (values.Int (worth number e) ∷ value ∷ rest))
+address_effects place r e i f heap number array values.Null rest is fits = null_effects r e heap number array is
+address_effects place r e i f heap number array (values.Array a) rest is fits =
+    let found = array_is a (array r) is in
+    found_effects place r e a (λ cell. goes_on i f heap (values.Addr a (unsigned_abs (worth number e)) ∷ rest)) heap number
+    array found (subst (FitsArray heap place) found fits) (λ cell. one_goes_on _ heap)
+address_effects place r e i f heap number array (values.Int n) rest is fits = absurd cc
+address_effects place r e i f heap number array (values.Native n) rest is fits = absurd cc
+address_effects place r e i f heap number array (values.Addr a n) rest is fits = absurd cc
+address_effects place r e i f heap number array values.Text rest is fits = absurd cc
 
 -- A new array.
 pub new_array_effects : (place : Place) (e : Expr) (i : Instr) (f : Frame) (heap : Heap) (number : ℕ → ℤ)

@@ -284,6 +284,9 @@ any_after op (vars.Reference r) (vars.Reference q) holds known named first secon
     same_after (same_flag (is_equality op) holds) known (null_tested r q) named
 any_after op (vars.Reference r) vars.Text holds known named first second = after_itself known named
 any_after op vars.Text b holds known named first second = after_itself known named
+any_after op (vars.Number a) (vars.Address q f) holds known named first second = after_itself known named
+any_after op (vars.Reference r) (vars.Address q f) holds known named first second = after_itself known named
+any_after op (vars.Address r e) b holds known named first second = after_itself known named
 
 -- Where a comparison is assumed, what was there is there still.
 pub comparison_follows : (op : CmpOp) (a b : Var) (holds : Bool) (known : StateFacts) → HasForm known

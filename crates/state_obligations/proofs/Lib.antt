@@ -5,3 +5,4 @@ pub mod AssumptionLaws
 pub mod JudgedLaws
 pub mod StateLaws
 pub mod FaultLaws
+pub mod AddressLaws

@@ -53,7 +53,7 @@ impl Condition {
 pub enum Operation {
     /// The length of a reference.
     Length(u32),
-    /// An item of a reference, loaded or stored, at an index.
+    /// An item of a reference at an index: it is loaded or stored, or its address is taken.
     Element(u32, Expr),
     /// A new array of this length.
     NewArray(Expr),

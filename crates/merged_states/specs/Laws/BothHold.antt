@@ -128,6 +128,7 @@ like_vars a [] = tt
 like_vars a (vars.Number e ∷ vs) = (tt, like_vars a vs)
 like_vars a (vars.Reference r ∷ vs) = (same_with_itself (reference_at a.references r), like_vars a vs)
 like_vars a (vars.Text ∷ vs) = (tt, like_vars a vs)
+like_vars a (vars.Address r e ∷ vs) = (same_with_itself (reference_at a.references r), like_vars a vs)
 
 -- What is known of items holds in new names.
 own_held : (a : StateFacts) (vs : List Value) (heap : Heap) (number : ℕ → ℤ) (array : ℕ → Option ℕ) → HasForm a

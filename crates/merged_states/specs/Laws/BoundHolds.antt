@@ -5,7 +5,7 @@ use Rattle.std.specs.Option.{option_and_then, option_map}
 use Rattle.std.specs.List.{AllByRecursion}
 use Rattle.domain_api.specs.declared.expr.Expr.{Expr}
 use Rattle.alias_facts.specs.NullnessOf.{is_null}
-use Rattle.frame_names.specs.Binding.{FrameBinding, Gaps, References, SlotLists, Symbols, all_filled, both_filled, bound_by, bound_frames, expr_of, filled, filled_with, fits, free_slots, is_equal, number_in_slot, reference_in_slot, with_length, with_lengths, with_number, with_reference, with_references, with_symbols, with_var, with_vars}
+use Rattle.frame_names.specs.Binding.{FrameBinding, Gaps, References, SlotLists, Symbols, all_filled, both_filled, bound_by, bound_frames, bound_number, bound_reference, expr_of, filled, filled_with, fits, free_slots, is_equal, number_in_slot, reference_in_slot, with_length, with_lengths, with_number, with_reference, with_references, with_symbols, with_var, with_vars}
 use Rattle.frame_names.specs.BoundMeaning.{KeepGaps, zero_bound}
 use Rattle.frame_names.specs.Frames.{length_at, nullness_at, numbers_of, references_of}
 use Rattle.frame_names.specs.declared.reference.Reference.{Reference}
@@ -209,6 +209,16 @@ module _ (gap : Gaps) (number : ℕ → ℤ) (a b : List Reference) (keep : Keep
         first = reference_first a b r q old.references references so.first found;
       })
 
+  -- The reference of an address is bound, and then its index.
+  address_var : (old new : SlotLists) (r q : ℕ) (e f : Expr) (made : Option SlotLists) → FitsSigned w32 (worth number e)
+      → r ≤ length a → BothSo number a b old
+      → bound_reference a b r q old ≡ made → option_and_then (bound_number gap e f) made ≡ Some new
+      → BothSo number a b new
+  address_var old new r q e f None own there so found is = absurd cc
+  address_var old new r q e f (Some next) own there so found is =
+      number_var next new e f (with_number gap e f next.symbols) own
+      (reference_var old next r q (with_reference a b r q old.references) there so refl found) refl is
+
   var_step : (xs ys : List Var) (new : SlotLists) (next : Option SlotLists)
       → ((slots : SlotLists) → BothSo number a b slots → with_vars gap a b xs ys slots ≡ Some new
       → BothSo number a b new)
@@ -234,12 +244,11 @@ module _ (gap : Gaps) (number : ℕ → ℤ) (a b : List Reference) (keep : Keep
       (λ slots is. reference_var old slots r q (with_reference a b r q old.references) there.0 so refl is)
       made
   vars_so (vars.Text ∷ xs) (vars.Text ∷ ys) old new fit there so made = vars_so xs ys old new fit there so made
-  vars_so (vars.Number e ∷ xs) (vars.Reference q ∷ ys) old new fit there so made = absurd cc
-  vars_so (vars.Number e ∷ xs) (vars.Text ∷ ys) old new fit there so made = absurd cc
-  vars_so (vars.Reference r ∷ xs) (vars.Number f ∷ ys) old new fit there so made = absurd cc
-  vars_so (vars.Reference r ∷ xs) (vars.Text ∷ ys) old new fit there so made = absurd cc
-  vars_so (vars.Text ∷ xs) (vars.Number f ∷ ys) old new fit there so made = absurd cc
-  vars_so (vars.Text ∷ xs) (vars.Reference q ∷ ys) old new fit there so made = absurd cc
+  vars_so (vars.Address r e ∷ xs) (vars.Address q f ∷ ys) old new fit there so made =
+      var_step xs ys new (with_var gap a b (vars.Address r e) (vars.Address q f) old)
+      (λ next have is. vars_so xs ys next new fit.1 there.1 have is)
+      (λ slots is. address_var old slots r q e f (bound_reference a b r q old) fit.0 there.0 so refl is) made
+  vars_so (x ∷ xs) (y ∷ ys) old new fit there so made = absurd cc
 
   length_so : (known : Reference) (slot : Option ℕ) (symbols new : Symbols)
       → ((r : ℕ) → FitsSigned w32 (worth number (length_at a r)))

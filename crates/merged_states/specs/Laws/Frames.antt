@@ -1,5 +1,5 @@
 -- Variables and references of a state that holds: what they are worth, and what they are in new names.
-use Rattle.std.proofs.Common.{◌≡◌, ℕ, zero, suc, ◌-◌, ◌==◌, ◌<◌, ◌^◌, ℤ, pos, ◌+ℤ◌, Bool, false, List, [], ◌∷◌, ◌++◌, map, slice_get, Option, Some, None, FitsSigned, w32, refl, sym, ap, ◌∙◌, subst, inl, inr, arith}
+use Rattle.std.proofs.Common.{◌≡◌, ℕ, zero, suc, ◌-◌, ◌==◌, ◌<◌, ◌^◌, ℤ, pos, ◌+ℤ◌, nat_lt, Bool, true, false, List, [], ◌∷◌, ◌++◌, length, map, slice_get, Option, Some, None, FitsSigned, w32, refl, sym, ap, ◌∙◌, subst, inl, inr, arith}
 use Rattle.std.specs.Prelude.{if◌then◌else◌}
 use Rattle.std.specs.List.{AllByRecursion}
 use Rattle.std.proofs.lemmas.Bool.{cases_Bool}
@@ -9,13 +9,13 @@ use Rattle.domain_api.specs.declared.expr.Expr.{Expr}
 use Rattle.alias_facts.specs.Arrays.{is_no_array}
 use Rattle.alias_facts.specs.NullnessOf.{Agrees}
 use Rattle.cil_model.specs.Comparisons.{number_of, reference_of}
-use Rattle.cil_model.specs.Values.{Heap, IsHeap}
+use Rattle.cil_model.specs.Values.{Heap, IsHeap, has_item}
 use Rattle.cil_model.specs.declared.machine.Value.{Value}
 use Rattle.cil_model.specs.declared.machine.Value.TheVariants as values
 use Rattle.cil_model.specs.declared.place.Place.{Place}
 use Rattle.frame_names.specs.Frames.{AreAlike, length_at, length_in, nullness_at, nullness_in, numbers_of, place_at, place_in, references_of}
 use Rattle.frame_names.specs.Frames as frames
-use Rattle.frame_names.specs.Meaning.{Said, a_number, a_text, an_array, said}
+use Rattle.frame_names.specs.Meaning.{Said, a_number, a_text, an_address, an_array, said}
 use Rattle.frame_names.specs.PairedFrames.{old_of}
 use Rattle.frame_names.specs.declared.reference.Reference.{Reference}
 use Rattle.frame_names.specs.declared.var.Var.{Var}
@@ -23,7 +23,7 @@ use Rattle.frame_names.specs.declared.var.Var.TheVariants as vars
 use Rattle.symbolic_values.specs.Worth.{worth}
 use Rattle.symbolic_values.specs.declared.pairs.Key.{Key}
 use Rattle.state_facts.specs.Holds as holds
-use Rattle.state_facts.specs.Holds.{AreSo, FitsArray, HasValue, HaveValues, IsSo, length_of_array}
+use Rattle.state_facts.specs.Holds.{AreSo, FitsArray, HasValue, HaveValues, IsSo, address_of, length_of_array}
 use Rattle.merged_states.specs.Alike.{AreLike}
 use Rattle.merged_states.specs.Following.{AreNoneBeyond, IsMachineNumber}
 use Rattle.state_facts.specs.StateFacts as states
@@ -38,9 +38,11 @@ pub vars_fit : (number : ℕ → ℤ) (array : ℕ → Option ℕ) (vs : List Va
 vars_fit number array [] values has fit = tt
 vars_fit number array (v ∷ vs) [] has fit = absurd has
 vars_fit number array (vars.Number e ∷ vs) (value ∷ values) has fit =
-    (fit.0 (worth number e) has.0, vars_fit number array vs values has.1 fit.1)
+    (fit.0.number (worth number e) has.0, vars_fit number array vs values has.1 fit.1)
 vars_fit number array (vars.Reference r ∷ vs) (value ∷ values) has fit = vars_fit number array vs values has.1 fit.1
 vars_fit number array (vars.Text ∷ vs) (value ∷ values) has fit = vars_fit number array vs values has.1 fit.1
+vars_fit number array (vars.Address r e ∷ vs) (value ∷ values) has fit =
+    (fit.0.index (array r) (worth number e) has.0, vars_fit number array vs values has.1 fit.1)
 
 pub both_fit : (number : ℕ → ℤ) (es fs : List Expr) → AllFit number es → AllFit number fs → AllFit number (es ++ fs)
 both_fit number [] fs first second = second
@@ -53,12 +55,8 @@ alike_of a b (x ∷ xs) [] like = absurd like
 alike_of a b (vars.Number e ∷ xs) (vars.Number f ∷ ys) like = (refl, alike_of a b xs ys like.1)
 alike_of a b (vars.Reference r ∷ xs) (vars.Reference q ∷ ys) like = (refl, alike_of a b xs ys like.1)
 alike_of a b (vars.Text ∷ xs) (vars.Text ∷ ys) like = (refl, alike_of a b xs ys like.1)
-alike_of a b (vars.Number e ∷ xs) (vars.Reference q ∷ ys) like = absurd like.0
-alike_of a b (vars.Number e ∷ xs) (vars.Text ∷ ys) like = absurd like.0
-alike_of a b (vars.Reference r ∷ xs) (vars.Number f ∷ ys) like = absurd like.0
-alike_of a b (vars.Reference r ∷ xs) (vars.Text ∷ ys) like = absurd like.0
-alike_of a b (vars.Text ∷ xs) (vars.Number f ∷ ys) like = absurd like.0
-alike_of a b (vars.Text ∷ xs) (vars.Reference q ∷ ys) like = absurd like.0
+alike_of a b (vars.Address r e ∷ xs) (vars.Address q f ∷ ys) like = (refl, alike_of a b xs ys like.1)
+alike_of a b (x ∷ xs) (y ∷ ys) like = absurd like.0
 
 -- ---- what variables have, by what they say
 
@@ -67,6 +65,7 @@ abbrev pub IsSaid : Said → Value → Type 0
 IsSaid (a_number n) value = number_of value ≡ Some n
 IsSaid (an_array array) value = reference_of value ≡ Some array
 IsSaid a_text value = value ≡ values.Text
+IsSaid (an_address array n) value = address_of value ≡ Some (array, n)
 
 abbrev pub AreSaid : List Said → List Value → Type 0
 AreSaid [] [] = Unit {0}
@@ -82,6 +81,7 @@ said_by number array (v ∷ vs) [] have = have
 said_by number array (vars.Number e ∷ vs) (value ∷ values) have = (have.0, said_by number array vs values have.1)
 said_by number array (vars.Reference r ∷ vs) (value ∷ values) have = (have.0, said_by number array vs values have.1)
 said_by number array (vars.Text ∷ vs) (value ∷ values) have = (have.0, said_by number array vs values have.1)
+said_by number array (vars.Address r e ∷ vs) (value ∷ values) have = (have.0, said_by number array vs values have.1)
 
 have_said : (number : ℕ → ℤ) (array : ℕ → Option ℕ) (vs : List Var) (values : List Value)
     → AreSaid (map (said number array) vs) values
@@ -92,6 +92,7 @@ have_said number array (v ∷ vs) [] are = are
 have_said number array (vars.Number e ∷ vs) (value ∷ values) are = (are.0, have_said number array vs values are.1)
 have_said number array (vars.Reference r ∷ vs) (value ∷ values) are = (are.0, have_said number array vs values are.1)
 have_said number array (vars.Text ∷ vs) (value ∷ values) are = (are.0, have_said number array vs values are.1)
+have_said number array (vars.Address r e ∷ vs) (value ∷ values) are = (are.0, have_said number array vs values are.1)
 
 -- Variables that say the same have the same values.
 pub have_same : (number later : ℕ → ℤ) (array later_array : ℕ → Option ℕ) (new old : List Var) (values : List Value)
@@ -126,8 +127,20 @@ few_items [] i arrays = grind arith
 few_items (cell ∷ heap) zero arrays = arrays.0.1
 few_items (cell ∷ heap) (suc i) arrays = few_items heap i arrays.1
 
+few_indices : (heap : Heap) (a n : ℕ) → IsHeap heap → has_item heap a n ≡ true → n < 2 ^ 31
+few_indices [] a n arrays has = absurd cc
+few_indices (cell ∷ heap) zero n arrays has = below_all (length cell.items) n arrays.0.1 has
+  where
+    below_all : (count m : ℕ) → count < 2 ^ 31 → nat_lt m count ≡ true → m < 2 ^ 31
+    below_all count m few is = grind (arith, few, is)
+few_indices (cell ∷ heap) (suc a) n arrays has = few_indices heap a n arrays.1 has
+
 few_fits : (n : ℕ) → n < 2 ^ 31 → FitsSigned w32 (pos n)
 few_fits n few = grind (arith, ints)
+
+-- The index of an item is an int32.
+pub index_fits : (heap : Heap) (a n : ℕ) → IsHeap heap → has_item heap a n ≡ true → FitsSigned w32 (pos n)
+index_fits heap a n arrays has = few_fits n (few_indices heap a n arrays has)
 
 none_fits : FitsSigned w32 (pos 0)
 none_fits = grind (arith, ints)

@@ -85,6 +85,7 @@ near_numbers symbols references [] all = tt
 near_numbers symbols references (vars.Number e ∷ vs) all = (all.0.near, near_numbers symbols references vs all.1)
 near_numbers symbols references (vars.Reference r ∷ vs) all = near_numbers symbols references vs all.1
 near_numbers symbols references (vars.Text ∷ vs) all = near_numbers symbols references vs all.1
+near_numbers symbols references (vars.Address r e ∷ vs) all = (all.0.1.near, near_numbers symbols references vs all.1)
 
 with_lengths : (symbols : ℕ) (references : List Reference) (es : List Expr) (keys : List Key) → AreNear es
     → AllByRecursion (IsReference symbols) references
@@ -204,6 +205,8 @@ references_there symbols references [] all = tt
 references_there symbols references (vars.Number e ∷ vs) all = references_there symbols references vs all.1
 references_there symbols references (vars.Reference r ∷ vs) all = (all.0, references_there symbols references vs all.1)
 references_there symbols references (vars.Text ∷ vs) all = references_there symbols references vs all.1
+references_there symbols references (vars.Address r e ∷ vs) all =
+    (all.0.0, references_there symbols references vs all.1)
 
 -- As much is known of items as there are references.
 pub contents_count : (known : StateFacts) → HasForm known → length known.references ≡ length known.contents

@@ -83,12 +83,9 @@ use_places a b (vars.Number e ∷ xs) (vars.Number f ∷ ys) like = use_places a
 use_places a b (vars.Reference r ∷ xs) (vars.Reference q ∷ ys) like =
     (one_place_of a b r q like.0, use_places a b xs ys like.1)
 use_places a b (vars.Text ∷ xs) (vars.Text ∷ ys) like = use_places a b xs ys like.1
-use_places a b (vars.Number e ∷ xs) (vars.Reference q ∷ ys) like = absurd like.0
-use_places a b (vars.Number e ∷ xs) (vars.Text ∷ ys) like = absurd like.0
-use_places a b (vars.Reference r ∷ xs) (vars.Number f ∷ ys) like = absurd like.0
-use_places a b (vars.Reference r ∷ xs) (vars.Text ∷ ys) like = absurd like.0
-use_places a b (vars.Text ∷ xs) (vars.Number f ∷ ys) like = absurd like.0
-use_places a b (vars.Text ∷ xs) (vars.Reference q ∷ ys) like = absurd like.0
+use_places a b (vars.Address r e ∷ xs) (vars.Address q f ∷ ys) like =
+    (one_place_of a b r q like.0, use_places a b xs ys like.1)
+use_places a b (x ∷ xs) (y ∷ ys) like = absurd like.0
 
 origin_place : (a b : StateFacts) → HaveOnePlace a.references b.references origin
 origin_place a b p q first second = absurd cc

@@ -1,15 +1,17 @@
 -- Join, widening, the normal form and inclusion keep what holds, of values over a heap and of points.
-use Rattle.std.proofs.Common.{◌≡◌, ℕ, zero, suc, ◌<◌, ◌≤◌, ℤ, pos, Bool, true, false, List, [], ◌∷◌, ◌++◌, reverse, length, slice_get, Option, Some, None, FitsSigned, w32, refl, sym, ap, ◌∙◌, subst, arith}
+use Rattle.std.proofs.Common.{◌≡◌, ℕ, zero, suc, ◌<◌, ◌≤◌, ◌^◌, ℤ, pos, Bool, true, false, List, [], ◌∷◌, ◌++◌, reverse, length, slice_get, Option, Some, None, FitsSigned, w32, refl, sym, ap, ◌∙◌, subst, arith}
 use Rattle.std.specs.Prelude.{if◌then◌else◌}
-use Rattle.std.specs.Option.{ForSome}
+use Rattle.std.specs.Option.{ForSome, option_map_or}
 use Rattle.std.specs.List.{AllByRecursion}
 use Rattle.std.proofs.lemmas.Int.{ints}
 use Rattle.std.proofs.lemmas.List.{length-map}
+use Rattle.std.proofs.lemmas.Option.{none-some}
 use Rattle.alias_facts.specs.Arrays.{AllDiffer, is_no_array}
 use Rattle.alias_facts.specs.PairsOf.{Pair}
 use Rattle.array_contents.proofs.HeldLaws.{held_agree}
 use Rattle.cil_model.proofs.Lists.{all_reverse}
-use Rattle.cil_model.specs.Values.{Heap, IsValue}
+use Rattle.cil_model.specs.Comparisons.{number_of}
+use Rattle.cil_model.specs.Values.{Heap, IsHeap, IsValue}
 use Rattle.cil_model.specs.declared.machine.Value.{Value}
 use Rattle.cil_model.specs.declared.machine.Value.TheVariants as values
 use Rattle.frame_names.specs.Binding.{FrameBinding, bound_frames}
@@ -22,17 +24,18 @@ use Rattle.number_facts.specs.Gaps.{gap}
 use Rattle.number_facts.specs.Holds.{IsDefined, is_below}
 use Rattle.symbolic_values.specs.Meaning.{told, truth}
 use Rattle.symbolic_values.specs.Names.{same_flag}
+use Rattle.symbolic_values.specs.Worth.{worth}
 use Rattle.symbolic_values.specs.declared.def.Def.{Def}
 use Rattle.symbolic_values.specs.declared.def.Def.TheVariants.{Eq, Lt, LtUn, NullTest, Sub}
 use Rattle.state_facts.specs.Forms.{HasForm, IsVar, TestsOf, lengths_of}
-use Rattle.state_facts.specs.Holds.{AreSo, HaveValues, HoldsAt, HoldsBy, IsSo, items_of_array, variables_of}
+use Rattle.state_facts.specs.Holds.{AreSo, HaveValues, HoldsAt, HoldsBy, IsSo, address_of, items_of_array, variables_of}
 use Rattle.merged_states.specs.Merging.{Rule, join, joining, merged, normal, widen, widening}
 use Rattle.merged_states.specs.Alike.{AreComparable, AreLikeStates}
 use Rattle.merged_states.specs.Inclusion.{if_bound, is_included, is_included_known}
 use Rattle.merged_states.specs.Following.{AreNoneBeyond, AreOfMachine, Follows, HoldsOver, IsMachineNumber}
 use Rattle.state_facts.specs.StateFacts as states
 use Rattle.state_facts.specs.StateFacts.{StateFacts, State}
-use Rattle.merged_states.specs.Laws.Frames.{same_entry}
+use Rattle.merged_states.specs.Laws.Frames.{index_fits, same_entry}
 use Rattle.merged_states.specs.Laws.IncludedHolds.{included_holds}
 use Rattle.merged_states.specs.Laws.BothHold.{KeepsSide, joined_keeps, merged_holds, normal_holds, widened_keeps}
 use Rattle.merged_states.specs.Laws.MergedHolds.{SideSo, arrays_of, later_of, parts_so}
@@ -90,6 +93,12 @@ values_stay known number array (vars.Reference r ∷ vs) (value ∷ values) none
 )
 values_stay known number array (vars.Text ∷ vs) (value ∷ values) none named have =
     (have.0, values_stay known number array vs values none named.1 have.1)
+values_stay known number array (vars.Address r e ∷ vs) (value ∷ values) none named have = (
+  have.0
+      ∙ ap (λ x. Some (x, worth number e)) (sym (there_stays known array r none named.0.0)),
+  values_stay known number array vs values none
+      named.1 have.1,
+)
 
 says_still : (known : StateFacts) (number : ℕ → ℤ) (array : ℕ → Option ℕ) (def : Def) → array 0 ≡ None
     → TestsOf (length known.references) def
@@ -221,22 +230,44 @@ included_over (Some a) (Some b) like is vs heap machine over =
 
 -- ---- points
 
-number_fits : (heap : Heap) (value : Value) → IsValue heap value → IsMachineNumber value
-number_fits heap (values.Int n) is m at = subst (FitsSigned w32) (same n m at) is
-  where
-    same : (x y : ℤ) → Some x ≡ Some y → x ≡ y
-    same x y e = cc
-number_fits heap (values.Native n) is m at = subst (FitsSigned w32) (same n m at) (grind (arith, ints))
-  where
-    same : (x : ℕ) (y : ℤ) → Some (pos x) ≡ Some y → pos x ≡ y
-    same x y e = cc
-number_fits heap values.Null is m at = absurd cc
-number_fits heap (values.Array i) is m at = absurd cc
-number_fits heap values.Text is m at = absurd cc
+same_number : (m n : ℤ) → Some m ≡ Some n → m ≡ n
+same_number m n same = cc
 
-all_fit : (heap : Heap) (vs : List Value) → AllByRecursion (IsValue heap) vs → AllByRecursion IsMachineNumber vs
-all_fit heap [] all = tt
-all_fit heap (v ∷ vs) all = (number_fits heap v all.0, all_fit heap vs all.1)
+index_is : (a n : ℕ) (array : Option ℕ) (m : ℤ) → address_of (values.Addr a n) ≡ Some (array, m) → pos n ≡ m
+index_is a n array m at = ap (λ o. option_map_or (λ (x : Option ℕ × ℤ). x.1) o m) at
+
+native_fits : (n : ℕ) → n < 2 ^ 31 → FitsSigned w32 (pos n)
+native_fits n few = grind (arith, ints)
+
+-- A value of the machine that has no number, and is no address.
+no_number : (value : Value) → number_of value ≡ None → address_of value ≡ None → IsMachineNumber value
+no_number value none nowhere = record {
+  number = λ n at. absurd (none-some n (sym none ∙ at));
+  index = λ array n at. absurd (none-some (array, n) (sym nowhere ∙ at));
+}
+
+machine_number : (heap : Heap) (value : Value) → IsHeap heap → IsValue heap value → IsMachineNumber value
+machine_number heap (values.Int n) arrays is = record {
+  number = λ m at. subst (FitsSigned w32) (same_number n m at) is;
+  index = λ array m at. absurd (none-some (array, m) at);
+}
+machine_number heap (values.Native n) arrays is = record {
+  number = λ m at. subst (FitsSigned w32) (same_number (pos n) m at) (native_fits n is);
+  index = λ array m at. absurd (none-some (array, m) at);
+}
+machine_number heap values.Null arrays is = no_number values.Null refl refl
+machine_number heap (values.Array i) arrays is = no_number (values.Array i) refl refl
+machine_number heap (values.Addr a n) arrays is = record {
+  number = λ m at. absurd (none-some m at);
+  index = λ array m at. subst (FitsSigned w32) (index_is a n array m at) (index_fits heap a n arrays is);
+}
+machine_number heap values.Text arrays is = no_number values.Text refl refl
+
+-- Numbers and indices of the machine's values are int32.
+pub machine_numbers : (heap : Heap) (vs : List Value) → IsHeap heap → AllByRecursion (IsValue heap) vs
+    → AllByRecursion IsMachineNumber vs
+machine_numbers heap [] arrays all = tt
+machine_numbers heap (v ∷ vs) arrays all = (machine_number heap v arrays all.0, machine_numbers heap vs arrays all.1)
 
 both_all : {X : Type 0} (P : X → Type 0) (xs ys : List X) → AllByRecursion P xs → AllByRecursion P ys
     → AllByRecursion P (xs ++ ys)
@@ -251,9 +282,10 @@ at_point a b p follows at =
       numbers = both_all IsMachineNumber (p.frame.entry_args ++ p.frame.args ++ p.frame.locals) (reverse p.frame.stack)
           (both_all IsMachineNumber (p.frame.entry_args ++ p.frame.args) p.frame.locals
           (both_all IsMachineNumber p.frame.entry_args p.frame.args
-          (all_fit p.frame.entry_heap p.frame.entry_args machine.entry_args)
-          (all_fit p.heap p.frame.args machine.args)) (all_fit p.heap p.frame.locals machine.locals))
-          (all_reverse IsMachineNumber p.frame.stack (all_fit p.heap p.frame.stack machine.stack));
+          (machine_numbers p.frame.entry_heap p.frame.entry_args machine.entry_heap machine.entry_args)
+          (machine_numbers p.heap p.frame.args machine.heap machine.args))
+          (machine_numbers p.heap p.frame.locals machine.heap machine.locals))
+          (all_reverse IsMachineNumber p.frame.stack (machine_numbers p.heap p.frame.stack machine.heap machine.stack));
       arrays = machine.heap;
     }) (record { number = at.frame.number; array = at.frame.array; holds = at.frame.holds }) in
     record { machine = machine; frame = record { number = over.number; array = over.array; holds = over.holds } }
