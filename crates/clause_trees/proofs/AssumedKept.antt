@@ -1,6 +1,5 @@
 -- Where a tree is true, the state in which it is assumed holds, by some choice.
-use Rattle.std.proofs.Common.{◌≡◌, inl, inr, ℕ, ◌<◌, ◌==◌, ℤ, pos, int_eq, Bool, true, false, not, List, [], ◌∷◌, ◌++◌, Option, Some, None, FitsSigned, w32, refl, ap, subst, sym, ◌∙◌, arith}
-use Rattle.std.specs.List.{AllByRecursion}
+use Rattle.std.proofs.Common.{◌≡◌, inl, inr, ℕ, ◌==◌, ℤ, pos, int_eq, Bool, true, false, not, List, [], ◌∷◌, ◌++◌, Option, Some, None, refl, ap, subst, sym, ◌∙◌, arith}
 use Rattle.std.specs.Option.{option_and_then}
 use Rattle.std.proofs.lemmas.Grind.{common_steps}
 use Rattle.std.proofs.lemmas.Int.{ints}
@@ -17,12 +16,11 @@ use Rattle.cil_model.specs.declared.machine.Value.{Value}
 use Rattle.cil_model.specs.declared.machine.Value.TheVariants as values
 use Rattle.cil_model.specs.declared.place.Kind.{Kind}
 use Rattle.cil_model.specs.declared.place.Place.{Place}
-use Rattle.merged_numbers.specs.Merging as numbers
 use Rattle.merged_states.specs.Alike.{AreLikeStates}
-use Rattle.merged_states.specs.Following.{AreOfMachine, HoldsOver, IsMachineNumber}
+use Rattle.merged_states.specs.Following.{AreOfMachine, HoldsOver}
 use Rattle.merged_states.specs.Merging.{join, joining}
 use Rattle.merged_states.specs.Laws.BothHold.{joined_keeps}
-use Rattle.merged_states.specs.Laws.StatesHold.{merged_over}
+use Rattle.merged_states.specs.Laws.StatesHold.{machine_numbers, merged_over}
 use Rattle.state_facts.specs.Forms.{HasForm}
 use Rattle.state_facts.specs.Holds.{HoldsIn}
 use Rattle.state_facts.specs.Moves.{popped}
@@ -42,20 +40,6 @@ use Rattle.clause_trees.proofs.SameForms.{comparable, grown_same, readable_same}
 use Rattle.clause_trees.proofs.Stays.{grown_itself, popped_below, top_is}
 use Rattle.clause_trees.proofs.ValueKinds.{both_tells, kind_is_value}
 
--- ---- values of the machine
-
-machine_number : (heap : Heap) (v : Value) → IsValue heap v → IsMachineNumber v
-machine_number heap (values.Int n) is m at = subst (FitsSigned w32) (same_Some n m at) is
-machine_number heap (values.Native n) is m at =
-    let small : n < 2147483648 = is in subst (FitsSigned w32) (same_Some (pos n) m at) (omega (arith, ints, small))
-machine_number heap values.Null is m at = absurd (none-some m at)
-machine_number heap (values.Array i) is m at = absurd (none-some m at)
-machine_number heap values.Text is m at = absurd (none-some m at)
-
-machine_numbers : (heap : Heap) (vs : List Value) → AllByRecursion (IsValue heap) vs → AllByRecursion IsMachineNumber vs
-machine_numbers heap [] all = tt
-machine_numbers heap (v ∷ vs) all = (machine_number heap v all.0, machine_numbers heap vs all.1)
-
 -- ---- truths
 
 flag_negated : (b holds : Bool) → is_true (values.Int (truth b)) ≡ Some holds → Some (not b) ≡ Some (not holds)
@@ -73,9 +57,7 @@ negated_truth (values.Native n) y holds gives is =
     ap (λ b. Some (not b)) (sym same)
     ∙ flag_negated (int_eq (pos n) (pos 0)) holds
     (ap is_true (same_Some (values.Int (truth (int_eq (pos n) (pos 0)))) y gives) ∙ is)
-negated_truth values.Null y holds gives is = absurd (none-some y gives)
-negated_truth (values.Array i) y holds gives is = absurd (none-some y gives)
-negated_truth values.Text y holds gives is = absurd (none-some y gives)
+negated_truth _ y holds gives is = absurd (none-some y gives)
 
 -- A value that is true or false is there.
 truth_tells : (o : Option Value) (holds : Bool) → option_and_then is_true o ≡ Some holds → (x : Value) × (o ≡ Some x) ×
@@ -141,7 +123,7 @@ join_second known o p vs heap machine first second over =
 module _ (env : TreeEnv) (args : List Place) (result : Place) (vs : List Value) (heap : Heap) (r : Reading)
     (reads : Reads env args result vs heap r) where
   pub of_machine : AreOfMachine vs heap
-  of_machine = record { numbers = machine_numbers heap vs reads.are_values; arrays = reads.is_heap }
+  of_machine = record { numbers = machine_numbers heap vs reads.is_heap reads.are_values; arrays = reads.is_heap }
 
   top_kept : (x : StateFacts) (kind : Kind) (o : State) (v : Value) (number : ℕ → ℤ) (array : ℕ → Option ℕ)
       (holds : Bool)

@@ -27,7 +27,7 @@ use Rattle.clause_trees.specs.declared.reader.TreeEnv.{TreeEnv}
 use Rattle.clause_trees.proofs.PushedTrees.{true_follows, value_pushed}
 use Rattle.clause_trees.proofs.SameForms.{grown_same, join_same, readable_same, same_forms_on}
 use Rattle.clause_trees.proofs.Stays.{grown_on, popped_below, stays_grown, top_is}
-use Rattle.clause_trees.proofs.Typing.{branches_typed, operator_typed}
+use Rattle.clause_trees.proofs.Typing.{branches_typed, merged_cases, merged_swaps, operator_typed}
 
 -- ---- comparisons with 0
 
@@ -161,28 +161,15 @@ module _ (env : TreeEnv) (args : List Place) (result : Place) where
         record {
           kind = below.right;
           typed = below.second;
-          tested = right_tested below.left below.right test.kind
-              below.merged test.tested;
+          tested = left_tested below.right below.left test.kind
+              (merged_swaps below.left below.right test.kind below.merged) test.tested;
         },
       )
     where
       left_tested : (l r k : Kind) → merged_kind l r ≡ Some k → is_tested k ≡ true → is_tested l ≡ true
-      left_tested kinds.Text kinds.Text k is so = absurd (false≢true (ap is_tested (same_Some kinds.Text k is) ∙ so))
-      left_tested kinds.Text _ k is so = absurd cc
-      left_tested kinds.Int r k is so = refl
-      left_tested kinds.Native r k is so = refl
-      left_tested kinds.Ints r k is so = refl
-      left_tested kinds.Bools r k is so = refl
-      left_tested kinds.NullRef r k is so = refl
-
-      right_tested : (l r k : Kind) → merged_kind l r ≡ Some k → is_tested k ≡ true → is_tested r ≡ true
-      right_tested kinds.Text kinds.Text k is so = absurd (false≢true (ap is_tested (same_Some kinds.Text k is) ∙ so))
-      right_tested l kinds.Int k is so = refl
-      right_tested l kinds.Native k is so = refl
-      right_tested l kinds.Ints k is so = refl
-      right_tested l kinds.Bools k is so = refl
-      right_tested l kinds.NullRef k is so = refl
-      right_tested _ kinds.Text k is so = absurd cc
+      left_tested l r k is =
+          merged_cases (λ l r k. is_tested k ≡ true → is_tested l ≡ true) (λ k so. so) (λ so. so) (λ so. so)
+          (λ so. refl) (λ so. refl) l r k is
 
   pub assumed_same : (t : Term) (holds : Bool) (known : StateFacts) (o : State) → IsReadable env args result known
       → HasSameFormsIn known o

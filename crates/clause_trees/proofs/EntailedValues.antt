@@ -6,7 +6,7 @@ use Rattle.std.proofs.lemmas.Bool.{and_parts, false≢true}
 use Rattle.std.proofs.lemmas.Int.{ints}
 use Rattle.std.proofs.lemmas.Option.{none-some, same_Some}
 use Rattle.cil_model.specs.Arithmetic.{operated, truth}
-use Rattle.cil_model.specs.Clauses.{Reading, at_entry, both, chosen, faultless, item_in, value_of}
+use Rattle.cil_model.specs.Clauses.{Reading, both, chosen, faultless, item_in, value_of}
 use Rattle.cil_model.specs.Clauses as clauses
 use Rattle.cil_model.specs.Comparisons.{comparison_of, is_true}
 use Rattle.cil_model.specs.FitKinds.{FitsKind}
@@ -26,7 +26,7 @@ use Rattle.cil_model.specs.declared.place.Kind.TheVariants as kinds
 use Rattle.cil_model.specs.declared.place.Place.{Place}
 use Rattle.cil_model.specs.declared.place.Place.TheVariants as places
 use Rattle.cil_model.proofs.KindForms as forms
-use Rattle.cil_model.proofs.KindValues.{array_of, item_there, pushed_defined, tested}
+use Rattle.cil_model.proofs.KindValues.{array_of, item_there, null_or_array, pushed_defined, tested}
 use Rattle.domain_api.specs.declared.expr.Expr.{Expr}
 use Rattle.frame_names.specs.declared.var.Var.{Var}
 use Rattle.frame_names.specs.declared.var.Var.TheVariants as vars
@@ -149,22 +149,10 @@ length_has over heap known kind v (values.Array a) vs number array is_heap form 
     entailed =
     let (cell, found) = array_found over kind a fits in
     (values.Int (pos (length cell.items)), ap (option_map (λ (c : ArrayCell). values.Int (pos (length c.items)))) found)
-length_has over heap known kind (vars.Number e) values.Null vs number array is_heap form there holds has reference fits
-    entailed =
+length_has over heap known kind v values.Null vs number array is_heap form there holds has reference fits entailed =
     absurd (false≢true entailed)
-length_has over heap known kind vars.Text values.Null vs number array is_heap form there holds has reference fits
-    entailed =
-    absurd (false≢true entailed)
-length_has over heap known kinds.Int v (values.Int n) vs number array is_heap form there holds has reference fits
-    entailed =
-    absurd (false≢true reference)
-length_has over heap known kinds.Native v (values.Native n) vs number array is_heap form there holds has reference fits
-    entailed =
-    absurd (false≢true reference)
-length_has over heap known kinds.Text v values.Text vs number array is_heap form there holds has reference fits
-    entailed =
-    absurd (false≢true reference)
-length_has over heap known _ v _ vs number array is_heap form there holds has reference fits entailed = absurd fits
+length_has over heap known kind v x vs number array is_heap form there holds has reference fits entailed =
+    absurd (null_or_array over kind x reference (form_is over kind x fits))
 
 item_has : (over : Heap) (place : Place) (a : ℕ) (n : ℤ) (cell : ArrayCell) → slice_get over a ≡ Some cell
     → same_place cell.place place ≡ true
@@ -216,14 +204,8 @@ module _ (over heap : Heap) (kept : KeepsForms over heap) (is_heap : IsHeap heap
       (same_length over heap kept is_heap a cell found) in
       item_has over place a n cell found same (subst (λ m. pos 0 ≤ℤ m) (sym index) met.1.0)
       (subst (λ m. m <ℤ pos (length cell.items)) (sym index) (subst (λ l. worth number i <ℤ l) long met.1.1.0))
-  array_has known place kind r i (values.Int m) n time vs number array form first second holds has other fits of_place
-      fits_kind entailed =
-      absurd (none-some _ has)
-  array_has known place kind r i (values.Native m) n time vs number array form first second holds has other fits
-      of_place fits_kind entailed =
-      absurd (none-some _ has)
-  array_has known place kind r i values.Text n time vs number array form first second holds has other fits of_place
-      fits_kind entailed =
+  array_has known place kind r i _ n time vs number array form first second holds has other fits of_place fits_kind
+      entailed =
       absurd (none-some _ has)
 
   element_has : (known : StateFacts) (place : Place) (kind : Kind) (v w : Var) (x y : Value) (time : Time)
@@ -236,21 +218,12 @@ module _ (over heap : Heap) (kept : KeepsForms over heap) (is_heap : IsHeap heap
       second holds has other of_place fits_kind fits entailed =
       array_has known place kind r i x n time vs number array form first second holds has other fits of_place fits_kind
       entailed
-  element_has known place kind (vars.Reference r) (vars.Reference q) x y time vs number array form first second holds
-      has other of_place fits_kind fits entailed =
-      absurd (false≢true entailed)
-  element_has known place kind (vars.Reference r) vars.Text x y time vs number array form first second holds has
-      other of_place fits_kind fits entailed =
-      absurd (false≢true entailed)
-  element_has known place kind (vars.Number e) w x y time vs number array form first second holds has
-      other of_place fits_kind fits entailed =
-      absurd (false≢true entailed)
-  element_has known place kind vars.Text w x y time vs number array form first second holds has
-      other of_place fits_kind fits entailed =
-      absurd (false≢true entailed)
   element_has known place kind (vars.Reference r) (vars.Number i) x _ time vs number array form first second holds has
       other of_place fits_kind fits entailed =
       absurd fits
+  element_has known place kind _ _ x y time vs number array form first second holds has other of_place fits_kind fits
+      entailed =
+      absurd (false≢true entailed)
 
 -- ---- operators
 
@@ -280,15 +253,7 @@ module _ (heap : Heap) (is_heap : IsHeap heap) where
       let (result, outcome) = operated_where_met op a b heap number array met in
       faultless_has (operated op m n)
       (result, ap (λ k. operated op k n) left ∙ ap (λ k. operated op (worth number a) k) right ∙ outcome)
-  numbers_have known op (vars.Number a) (vars.Reference q) m n vs number array form first second one two holds has other
-      entailed =
-      absurd (false≢true entailed)
-  numbers_have known op (vars.Number a) vars.Text m n vs number array form first second one two holds has other
-      entailed =
-      absurd (false≢true entailed)
-  numbers_have known op (vars.Reference r) w m n vs number array form first second one two holds has other entailed =
-      absurd (false≢true entailed)
-  numbers_have known op vars.Text w m n vs number array form first second one two holds has other entailed =
+  numbers_have known op _ _ m n vs number array form first second one two holds has other entailed =
       absurd (false≢true entailed)
 
   binary_has : (known : StateFacts) (args : List Place) (result : Place) (time : Time) (op : BinOp) (k l : Kind)

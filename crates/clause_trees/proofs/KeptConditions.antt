@@ -1,7 +1,7 @@
 -- What conditions keep: the value of the branch that is taken is one of what is seen.
 use Rattle.std.proofs.Common.{◌≡◌, ◌≢◌, ℕ, zero, suc, ◌==◌, ℤ, pos, int_eq, Bool, true, false, not, List, [], ◌∷◌, ◌++◌, length, Option, Some, None, FitsSigned, w32, refl, ap, subst, sym, ◌∙◌, arith}
 use Rattle.std.specs.Option.{option_and_then, option_or}
-use Rattle.std.proofs.lemmas.Bool.{cond_both}
+use Rattle.std.proofs.lemmas.Bool.{cond_both, false≢true}
 use Rattle.std.proofs.lemmas.Grind.{common_steps}
 use Rattle.std.proofs.lemmas.Int.{clamps, ints}
 use Rattle.std.proofs.lemmas.Option.{none-some, same_Some}
@@ -44,7 +44,7 @@ use Rattle.clause_trees.proofs.KeptSteps.{comes, for_known, held_so, top_value}
 use Rattle.clause_trees.proofs.PushedTrees.{IsSeen, IsSeenIf, PushesBehind, branch_seen, left_seen, reference_found, true_follows}
 use Rattle.clause_trees.proofs.PushedValues.{constant_there}
 use Rattle.clause_trees.proofs.Stays.{pushed_there, top_is}
-use Rattle.clause_trees.proofs.Typing.{merged_swaps}
+use Rattle.clause_trees.proofs.Typing.{is_of_tree, merged_swaps}
 
 -- ---- spans
 
@@ -113,16 +113,12 @@ array_described : (heap : Heap) (place : Place) (is : Value) (a : Option ℕ) �
 array_described heap place values.Null a array fits has = null_fits heap place array
 array_described heap place (values.Array i) a array fits has =
     array_fits heap place i array (subst (FitsArray heap place) (sym (same_Some (Some i) a has)) fits)
-array_described heap place (values.Int n) a array fits has = absurd (none-some a has)
-array_described heap place (values.Native n) a array fits has = absurd (none-some a has)
-array_described heap place values.Text a array fits has = absurd (none-some a has)
+array_described heap place _ a array fits has = absurd (none-some a has)
 
 null_is : (is : Value) (a : Option ℕ) → a ≡ None → reference_of is ≡ Some a → is ≡ values.Null
 null_is values.Null a none has = refl
 null_is (values.Array i) a none has = absurd (none-some i (sym none ∙ sym (same_Some (Some i) a has)))
-null_is (values.Int n) a none has = absurd (none-some a has)
-null_is (values.Native n) a none has = absurd (none-some a has)
-null_is values.Text a none has = absurd (none-some a has)
+null_is _ a none has = absurd (none-some a has)
 
 int_described : (heap : Heap) (r : Span) (is : Value) (n : ℤ) → FitsKind heap kinds.Int is → number_of is ≡ Some n
     → Has r n → IsNumberOf r is
@@ -150,15 +146,19 @@ reference_described after ws heap number array (suc r) is there form holds has =
 
 top_described : (after : StateFacts) (kind : Kind) (v : Var) (ws : List Value) (heap : Heap) (number : ℕ → ℤ)
     (array : ℕ → Option ℕ) (is : Value)
-    → HasVar after v → HasForm after → IsOfKind after kind v → FitsKind heap kind is
+    → HasVar after v → HasForm after → is_of_tree kind ≡ true → IsOfKind after kind v → FitsKind heap kind is
     → HoldsBy after ws heap number array
     → HasValue number array v is → DescribesIf heap (seen_of after v) is
-top_described after kinds.Int (vars.Number e) ws heap number array is there form of_kind fits holds has =
+top_described after kinds.Int (vars.Number e) ws heap number array is there form of_tree of_kind fits holds has =
     int_described heap (range_of after.facts e) is (worth number e) fits has
     (range_has after.facts number e holds.facts.allowed there.there)
-top_described after kind (vars.Reference r) ws heap number array is there form of_kind fits holds has =
+top_described after kind (vars.Reference r) ws heap number array is there form of_tree of_kind fits holds has =
     reference_described after ws heap number array r is there form holds has
-top_described after _ _ ws heap number array is there form of_kind fits holds has = elim of_kind [ ]
+top_described after kinds.AddrInts (vars.Address r e) ws heap number array is there form of_tree of_kind fits holds
+    has = absurd (false≢true of_tree)
+top_described after kinds.AddrBools (vars.Address r e) ws heap number array is there form of_tree of_kind fits holds
+    has = absurd (false≢true of_tree)
+top_described after _ _ ws heap number array is there form of_tree of_kind fits holds has = elim of_kind [ ]
 
 -- ---- either branch
 
@@ -168,30 +168,35 @@ null_of heap kinds.Ints (seen.Array place) so null = subst (λ p. FitsPlace heap
 null_of heap kinds.Bools seen.Null so null = refl
 null_of heap kinds.Bools (seen.Array place) so null = subst (λ p. FitsPlace heap p values.Null) (sym so) tt
 null_of heap kinds.NullRef seen.Null so null = refl
-null_of heap _ _ so null = absurd (first_of (search, cc))
+null_of heap kinds.Int _ so null = elim null [ ]
+null_of heap _ _ so null = elim so [ ]
 
 first_described : (heap : Heap) (kind : Kind) (s t : Seen) (is : Value) → IsSeen kind s → IsSeen kind t
     → Describes heap s is
     → Describes heap (seen_of_both s t) is
 first_described heap kinds.Int (seen.Number r) (seen.Number q) is one two so =
     record { n = so.n; is_int = so.is_int; fits = so.fits; has = hull_first r q so.n so.has }
+first_described heap kinds.Int (seen.Number r) _ is one two so = elim two [ ]
 first_described heap kind seen.Null t is one two so = subst (Describes heap t) (sym so) (null_of heap kind t two one)
 first_described heap kind (seen.Array place) t is one two so = so
-first_described heap _ _ _ is one two so = absurd (first_of (search, cc))
+first_described heap _ _ _ is one two so = elim one [ ]
 
 second_described : (heap : Heap) (kind : Kind) (s t : Seen) (is : Value) → IsSeen kind s → IsSeen kind t
     → Describes heap t is
     → Describes heap (seen_of_both s t) is
 second_described heap kinds.Int (seen.Number r) (seen.Number q) is one two so =
     record { n = so.n; is_int = so.is_int; fits = so.fits; has = hull_second r q so.n so.has }
+second_described heap kinds.Int (seen.Number r) _ is one two so = elim two [ ]
 second_described heap kind seen.Null t is one two so = so
 second_described heap kind (seen.Array place) seen.Null is one two so =
     subst (Describes heap (seen.Array place)) (sym so) (null_of heap kind (seen.Array place) one two)
 second_described heap kinds.Ints (seen.Array place) (seen.Array other) is one two so =
     subst (λ p. FitsPlace heap p is) (two ∙ sym one) so
+second_described heap kinds.Ints (seen.Array place) _ is one two so = elim two [ ]
 second_described heap kinds.Bools (seen.Array place) (seen.Array other) is one two so =
     subst (λ p. FitsPlace heap p is) (two ∙ sym one) so
-second_described heap _ _ _ is one two so = absurd (first_of (search, cc))
+second_described heap kinds.Bools (seen.Array place) _ is one two so = elim two [ ]
+second_described heap _ _ _ is one two so = elim one [ ]
 
 reached_first : (heap : Heap) (a b kind : Kind) (s t : Option Seen) (is : Value) → merged_kind a b ≡ Some kind
     → IsSeenIf a s → IsSeenIf b t
@@ -234,17 +239,13 @@ number_truth : (x : Value) (n : ℤ) → number_of x ≡ Some n → compares_val
 number_truth (values.Int m) n has = refl
 number_truth (values.Native m) n has =
     let same : int_eq (pos m) (pos 0) ≡ (m == 0) = grind (arith, ints, common_steps) in ap (λ b. Some (not b)) same
-number_truth values.Null n has = absurd (none-some n has)
-number_truth (values.Array i) n has = absurd (none-some n has)
-number_truth values.Text n has = absurd (none-some n has)
+number_truth _ n has = absurd (none-some n has)
 
 reference_truth : (x : Value) (a : Option ℕ) → reference_of x ≡ Some a
     → compares_values comparisons.NeUn x values.Null ≡ is_true x
 reference_truth values.Null a has = refl
 reference_truth (values.Array i) a has = refl
-reference_truth (values.Int n) a has = absurd (none-some a has)
-reference_truth (values.Native n) a has = absurd (none-some a has)
-reference_truth values.Text a has = absurd (none-some a has)
+reference_truth _ a has = absurd (none-some a has)
 
 -- Where the test's value is so, the state that assumes it holds by the same choice.
 pub true_kept : (so : Bool) (known : StateFacts) (v : Var) (x : Value) (vs : List Value) (heap : Heap) (number : ℕ → ℤ)
@@ -269,6 +270,7 @@ true_kept so known (vars.Reference r) x vs heap number array form there value ho
     vs heap number array x values.Null holds has (ap Some (sym holds.null)) value tt
     (reference_truth x (array r) has ∙ is)
 true_kept so known vars.Text x vs heap number array form there value holds has is = holds
+true_kept so known (vars.Address r e) x vs heap number array form there value holds has is = holds
 
 -- ---- conditions
 
@@ -281,10 +283,10 @@ KeepsBehind known inside vs is heap number array =
 taken_described : (known : StateFacts) (kind : Kind) (inside : Step) (so : Bool) (v : Var) (is : Value)
     (vs : List Value) (heap : Heap)
     (number : ℕ → ℤ) (array : ℕ → Option ℕ) → StaysThereIn known (true_known so v known)
-    → HoldsIn (true_known so v known) vs heap number array
+    → HoldsIn (true_known so v known) vs heap number array → is_of_tree kind ≡ true
     → FitsKind heap kind is → PushesBehind known kind inside → KeepsBehind known inside vs is heap number array
     → DescribesIf heap (seen_in (branch inside so v known)) is
-taken_described known kind inside so v is vs heap number array stays holds fits pushes keeps =
+taken_described known kind inside so v is vs heap number array stays holds of_tree fits pushes keeps =
     by (true_known so v known) stays holds
   where
     by : (o : State) → StaysThereIn known o → HoldsIn o vs heap number array
@@ -299,7 +301,7 @@ taken_described known kind inside so v is vs heap number array stays holds fits 
         (sym (top_is x first.after kind first.pushed))
         (top_described first.after kind top (vs ++ is ∷ []) heap first.later first.later_array is
         (pushed_there x first.after kind first.pushed)
-        first.pushed.grown.form first.pushed.of_kind fits first.holds
+        first.pushed.grown.form of_tree first.pushed.of_kind fits first.holds
         (top_value x first.after kind vs is heap first.later first.later_array first.pushed first.holds)))
 
 pub condition_kept : (known : StateFacts) (left right kind : Kind) (a b : Step) (v : Var) (so : Bool) (x is : Value)
@@ -307,23 +309,23 @@ pub condition_kept : (known : StateFacts) (left right kind : Kind) (a b : Step) 
     (number : ℕ → ℤ) (array : ℕ → Option ℕ) → HasForm known → HasVar known v → IsHeap heap → IsValue heap x
     → HoldsBy known vs heap number array
     → HasValue number array v x → is_true x ≡ Some so → merged_kind left right ≡ Some kind
-    → PushesBehind known left a → PushesBehind known right b
+    → is_of_tree left ≡ true → is_of_tree right ≡ true → PushesBehind known left a → PushesBehind known right b
     → (so ≡ true → FitsKind heap left is × KeepsBehind known a vs is heap number array)
     → (so ≡ false → FitsKind heap right is × KeepsBehind known b vs is heap number array)
     → HoldsOn (Some known) (condition_value a b v known).state (vs ++ is ∷ []) heap number array
 condition_kept known left right kind a b v true x is vs heap number array form there is_heap value holds has so merged
-    first second one two =
+    of_left of_right first second one two =
     let taken = one refl in
     seen_kept known _ is vs heap number array form is_heap holds
     (reached_first heap left right kind (seen_in (branch a true v known)) (seen_in (branch b false v known)) is merged
     (branch_seen known left a true v form there first) (branch_seen known right b false v form there second)
     (taken_described known left a true v is vs heap number array (true_follows true v known form there)
-    (true_kept true known v x vs heap number array form there value holds has so) taken.0 first taken.1))
+    (true_kept true known v x vs heap number array form there value holds has so) of_left taken.0 first taken.1))
 condition_kept known left right kind a b v false x is vs heap number array form there is_heap value holds has so merged
-    first second one two =
+    of_left of_right first second one two =
     let taken = two refl in
     seen_kept known _ is vs heap number array form is_heap holds
     (reached_second heap left right kind (seen_in (branch a true v known)) (seen_in (branch b false v known)) is merged
     (branch_seen known left a true v form there first) (branch_seen known right b false v form there second)
     (taken_described known right b false v is vs heap number array (true_follows false v known form there)
-    (true_kept false known v x vs heap number array form there value holds has so) taken.0 second taken.1))
+    (true_kept false known v x vs heap number array form there value holds has so) of_right taken.0 second taken.1))

@@ -6,7 +6,7 @@ use Rattle.std.proofs.lemmas.Int.{int_wrap_fits, ints}
 use Rattle.std.proofs.lemmas.Option.{get_or_from_slice_get, none-some, same_Some, slice_get_within}
 use Rattle.cc_base.specs.Wrap.{wrap32}
 use Rattle.cil_model.specs.Arithmetic.{operated, operated_one, truth}
-use Rattle.cil_model.specs.Clauses.{Reading, arithmetic_value, binary_by, faultless}
+use Rattle.cil_model.specs.Clauses.{arithmetic_value, binary_by, faultless}
 use Rattle.cil_model.specs.Clauses as clauses
 use Rattle.cil_model.specs.Comparisons.{comparison_of, number_of, pushed_comparison}
 use Rattle.cil_model.specs.Values.{FitItems, FitsPlace, Heap, IsHeap, IsValue, KeepsForms, same_place}
@@ -36,7 +36,7 @@ use Rattle.state_facts.specs.Moves.{item_place}
 use Rattle.state_facts.specs.StateFacts.{StateFacts, length_at, length_of}
 use Rattle.state_facts.specs.States as rule
 use Rattle.state_facts.proofs.Agreeing.{length_kept}
-use Rattle.state_facts.proofs.ComparisonsHold.{IsLike, compare_keeps, like_number, like_reference, like_text, unlike}
+use Rattle.state_facts.proofs.ComparisonsHold.{IsLike, compare_keeps, like_address, like_number, like_reference, like_text, unlike}
 use Rattle.state_facts.proofs.MovesHold.{push_keeps}
 use Rattle.state_facts.proofs.StoresHold.{load_keeps}
 use Rattle.state_facts.proofs.ResultsHold.{arith_keeps}
@@ -49,7 +49,7 @@ use Rattle.clause_trees.specs.TreeValues.{arithmetic, binary_value, element_valu
 use Rattle.clause_trees.specs.TreeValues as trees
 use Rattle.clause_trees.specs.declared.reader.Time.{Time}
 use Rattle.clause_trees.specs.declared.reader.Time.TheVariants.{Now, Entry}
-use Rattle.clause_trees.proofs.KeptSteps.{for_known, held_so, owed_kept}
+use Rattle.clause_trees.proofs.KeptSteps.{array_by_reference, for_known, held_so, int_by_number, owed_kept}
 use Rattle.clause_trees.proofs.PushedTrees.{reference_found}
 use Rattle.clause_trees.proofs.PushedValues.{constant_there, minuend_fits, operands_there}
 use Rattle.clause_trees.proofs.Stays.{stays_grown, var_there}
@@ -106,15 +106,12 @@ module _ (over heap : Heap) (kept : KeepsForms over heap) (is_heap : IsHeap heap
       → HasForm known → HasVar known v → HoldsBy known vs heap number array → HasValue number array v x
       → clauses.length_value over x ≡ Some is
       → HoldsOn (Some known) (length_value v known).state (vs ++ is ∷ []) heap number array
-  length_node known (vars.Reference r) (values.Array a) is vs number array form there holds has gives =
-      array_length known r a is vs number array form there holds (sym (same_Some (Some a) (array r) has)) gives
-  length_node known (vars.Number e) (values.Array a) is vs number array form there holds has gives =
-      absurd (none-some _ has)
-  length_node known vars.Text (values.Array a) is vs number array form there holds has gives = absurd cc
-  length_node known v (values.Int n) is vs number array form there holds has gives = absurd (none-some is gives)
-  length_node known v (values.Native n) is vs number array form there holds has gives = absurd (none-some is gives)
-  length_node known v values.Null is vs number array form there holds has gives = absurd (none-some is gives)
-  length_node known v values.Text is vs number array form there holds has gives = absurd (none-some is gives)
+  length_node known v (values.Array a) is vs number array form there holds has gives =
+      array_by_reference number array
+      (λ u. HasVar known u → HoldsOn (Some known) (length_value u known).state (vs ++ is ∷ []) heap number array) v a
+      has
+      (λ r at inside. array_length known r a is vs number array form inside holds at gives) there
+  length_node known v _ is vs number array form there holds has gives = absurd (none-some is gives)
 
 -- ---- items
 
@@ -208,21 +205,19 @@ module _ (over heap : Heap) (kept : KeepsForms over heap) (is_heap : IsHeap heap
       → HoldsBy known vs heap number array → HasValue number array v y → HasValue number array w z
       → HoldsOn (Some known) (element_value time place v w known).state (vs ++ is ∷ []) heap number array
   element_node known place v w y z is vs number array item form first second value holds has other =
-      by v w first second (subst (HasValue number array v) item.array_is has)
+      array_by_reference number array
+      (λ u. HasVar known u
+      → HoldsOn (Some known) (element_value time place u w known).state (vs ++ is ∷ []) heap number array) v item.array
+      (subst (HasValue number array v) item.array_is has)
+      (λ r at there.
+      int_by_number number array
+      (λ u. HasVar known u
+      → HoldsOn (Some known) (element_value time place (vars.Reference r) u known).state (vs ++ is ∷ []) heap number
+      array) w item.index
       (subst (HasValue number array w) item.index_is other)
-      (subst (IsValue heap) item.index_is value)
-    where
-      by : (v w : Var) → HasVar known v → HasVar known w → HasValue number array v (values.Array item.array)
-          → HasValue number array w (values.Int item.index) → IsValue heap (values.Int item.index)
-          → HoldsOn (Some known) (element_value time place v w known).state (vs ++ is ∷ []) heap number array
-      by (vars.Reference r) (vars.Number i) first second has other fits =
-          array_item known place r i y z is vs number array item form first second holds
-          (sym (same_Some (Some item.array) (array r) has))
-          (same_Some item.index (worth number i) other) fits
-      by (vars.Reference r) (vars.Reference q) first second has other fits = absurd (none-some _ other)
-      by (vars.Reference r) vars.Text first second has other fits = absurd cc
-      by (vars.Number e) w first second has other fits = absurd (none-some _ has)
-      by vars.Text w first second has other fits = absurd cc
+      (λ i index inside.
+      array_item known place r i y z is vs number array item form there inside holds at index
+      (subst (IsValue heap) item.index_is value)) second) first
 
 -- ---- operators
 
@@ -240,6 +235,26 @@ operands_fit operators.AddOvf a b number first second = ((first, second), tt)
 operands_fit operators.MulOvf a b number first second = ((first, second), tt)
 operands_fit operators.SubOvf a b number first second = ((first, second), tt)
 operands_fit _ a b number first second = tt
+
+-- What a value may be compared as is told by its variable.
+abbrev has_number : Var → Bool
+has_number (vars.Number e) = true
+has_number (vars.Reference r) = false
+has_number vars.Text = false
+has_number (vars.Address r e) = false
+
+abbrev has_reference : Var → Bool
+has_reference (vars.Number e) = false
+has_reference (vars.Reference r) = true
+has_reference vars.Text = false
+has_reference (vars.Address r e) = false
+
+like_variable : (number : ℕ → ℤ) (array : ℕ → Option ℕ) (v : Var) (x : Value) → HasValue number array v x
+    → IsLike x (has_number v) (has_reference v)
+like_variable number array (vars.Number e) x has = like_number x (worth number e) has
+like_variable number array (vars.Reference r) x has = like_reference x (array r) has
+like_variable number array vars.Text x has = like_text x has
+like_variable number array (vars.Address r e) x has = like_address x (array r, worth number e) has
 
 module _ (heap : Heap) (is_heap : IsHeap heap) where
   pub arithmetic_node : (known : StateFacts) (op : BinOp) (a b : Expr) (m n result : ℤ) (vs : List Value)
@@ -307,20 +322,19 @@ module _ (heap : Heap) (is_heap : IsHeap heap) where
       → HasValue number array w (values.Int n)
       → arithmetic_value op (values.Int m) (values.Int n) ≡ Some is
       → HoldsOn (Some known) (trees.binary_by op None v w known).state (vs ++ is ∷ []) heap number array
-  arithmetic_known known op (vars.Number a) (vars.Number b) m n is vs number array form first second one two holds has
-      other gives =
-      numbers_node known op a b m n is vs number array form first second holds
-      (record { first_is = has; second_is = other; first_fits = one; second_fits = two }) gives
-  arithmetic_known known op (vars.Number a) (vars.Reference q) m n is vs number array form first second one two holds
-      has other gives =
-      absurd (none-some _ other)
-  arithmetic_known known op (vars.Number a) vars.Text m n is vs number array form first second one two holds has other
-      gives = absurd cc
-  arithmetic_known known op (vars.Reference r) w m n is vs number array form first second one two holds has other
-      gives =
-      absurd (none-some _ has)
-  arithmetic_known known op vars.Text w m n is vs number array form first second one two holds has other gives =
-      absurd cc
+  arithmetic_known known op v w m n is vs number array form first second one two holds has other gives =
+      int_by_number number array
+      (λ u. HasVar known u
+      → HoldsOn (Some known) (trees.binary_by op None u w known).state (vs ++ is ∷ []) heap number array) v m has
+      (λ a left there.
+      int_by_number number array
+      (λ u. HasVar known u
+      → HoldsOn (Some known) (trees.binary_by op None (vars.Number a) u known).state (vs ++ is ∷ []) heap number array)
+      w n other
+      (λ b right inside.
+      numbers_node known op a b m n is vs number array form there inside holds
+      (record { first_is = ap Some left; second_is = ap Some right; first_fits = one; second_fits = two }) gives)
+      second) first
 
   no_comparison : (op : BinOp) (cmp : CmpOp) (x y is : Value) (p q r t : Bool) → IsLike x p q → IsLike y r t
       → (p && r) ≡ false
@@ -347,7 +361,7 @@ module _ (heap : Heap) (is_heap : IsHeap heap) where
           → HoldsOn (Some known) (trees.binary_by op o v w known).state (vs ++ is ∷ []) heap number array
       by None found v w (values.Int m) (values.Int n) first second one two has other gives =
           arithmetic_known known op v w m n is vs number array form first second one two holds has other gives
-      by None found v w _ _ first second one two has other gives = absurd (first_of (cc, search))
+      by None found v w _ _ first second one two has other gives = absurd (none-some is gives)
       by (Some cmp) found (vars.Number a) (vars.Number b) x y first second one two has other gives =
           compared_node known op cmp (vars.Number a) (vars.Number b) x y is vs number array form first second one two
           holds has other found
@@ -356,27 +370,9 @@ module _ (heap : Heap) (is_heap : IsHeap heap) where
           compared_node known op cmp (vars.Reference r) (vars.Reference q) x y is vs number array form first second one
           two holds has other found
           (pushed_comparison cmp x y) refl gives
-      by (Some cmp) found (vars.Number a) (vars.Reference q) x y first second one two has other gives =
-          absurd (no_comparison op cmp x y is true false false true (like_number x _ has) (like_reference y _ other)
-          refl refl gives)
-      by (Some cmp) found (vars.Number a) vars.Text x y first second one two has other gives =
-          absurd (no_comparison op cmp x y is true false false false (like_number x _ has) (like_text y other) refl refl
-          gives)
-      by (Some cmp) found (vars.Reference r) (vars.Number b) x y first second one two has other gives =
-          absurd (no_comparison op cmp x y is false true true false (like_reference x _ has) (like_number y _ other)
-          refl refl gives)
-      by (Some cmp) found (vars.Reference r) vars.Text x y first second one two has other gives =
-          absurd (no_comparison op cmp x y is false true false false (like_reference x _ has) (like_text y other) refl
-          refl gives)
-      by (Some cmp) found vars.Text (vars.Number b) x y first second one two has other gives =
-          absurd (no_comparison op cmp x y is false false true false (like_text x has) (like_number y _ other) refl refl
-          gives)
-      by (Some cmp) found vars.Text (vars.Reference q) x y first second one two has other gives =
-          absurd (no_comparison op cmp x y is false false false true (like_text x has) (like_reference y _ other) refl
-          refl gives)
-      by (Some cmp) found vars.Text vars.Text x y first second one two has other gives =
-          absurd (no_comparison op cmp x y is false false false false (like_text x has) (like_text y other) refl refl
-          gives)
+      by (Some cmp) found v w x y first second one two has other gives =
+          absurd (no_comparison op cmp x y is (has_number v) (has_reference v) (has_number w) (has_reference w)
+          (like_variable number array v x has) (like_variable number array w y other) refl refl gives)
 
   subtracted : (op : UnOp) (n : ℤ) → FitsSigned w32 n → operated operators.Sub (minuend op) n ≡ Ok (operated_one op n)
   subtracted unary.Neg n fits = let same : pos 0 -ℤ n ≡ neg_ℤ n = omega (arith, ints) in ap (λ k. Ok (wrap32 k)) same
@@ -389,24 +385,20 @@ module _ (heap : Heap) (is_heap : IsHeap heap) where
       → HasForm known → HasVar known v → IsValue heap x → HoldsBy known vs heap number array → HasValue number array v x
       → clauses.unary_value op x ≡ Some is → HoldsOn (Some known) (unary_value op v known).state
       (vs ++ is ∷ []) heap number array
-  unary_node known op (vars.Number e) (values.Int n) is vs number array form there value holds has gives =
-      subst (λ v. HoldsOn (Some known) (unary_value op (vars.Number e) known).state (vs ++ v ∷ []) heap number array)
+  unary_node known op v (values.Int n) is vs number array form there value holds has gives =
+      int_by_number number array
+      (λ u. HasVar known u → HoldsOn (Some known) (unary_value op u known).state (vs ++ is ∷ []) heap number array) v n
+      has
+      (λ e at inside.
+      subst (λ y. HoldsOn (Some known) (unary_value op (vars.Number e) known).state (vs ++ y ∷ []) heap number array)
       (same_Some (values.Int (operated_one op n)) is gives)
       (arithmetic_node known operators.Sub (constant (minuend op)) e (minuend op) n (operated_one op n) vs number array
       form
-      (constant_there known (minuend op) (minuend_fits op)) there holds
+      (constant_there known (minuend op) (minuend_fits op)) inside holds
       (record {
         first_is = ap Some (sym (constant_worth known.facts number (constant (minuend op)) holds.facts.allowed refl));
-        second_is = has;
+        second_is = ap Some at;
         first_fits = minuend_fits op;
         second_fits = value;
-      }) (subtracted op n value))
-  unary_node known op (vars.Reference r) (values.Int n) is vs number array form there value holds has gives =
-      absurd (none-some _ has)
-  unary_node known op vars.Text (values.Int n) is vs number array form there value holds has gives = absurd cc
-  unary_node known op v (values.Native n) is vs number array form there value holds has gives =
-      absurd (none-some is gives)
-  unary_node known op v values.Null is vs number array form there value holds has gives = absurd (none-some is gives)
-  unary_node known op v (values.Array i) is vs number array form there value holds has gives =
-      absurd (none-some is gives)
-  unary_node known op v values.Text is vs number array form there value holds has gives = absurd (none-some is gives)
+      }) (subtracted op n value))) there
+  unary_node known op v _ is vs number array form there value holds has gives = absurd (none-some is gives)

@@ -1,11 +1,15 @@
 -- One step after another keeps what holds: by a choice that is as before for what was there.
 use Rattle.std.proofs.Common.{◌≡◌, ℕ, ◌≤◌, ℤ, List, [], ◌∷◌, ◌++◌, length, Option, Some, None, refl, subst, sym, ◌∙◌, arith}
 use Rattle.std.specs.Option.{ForSome}
-use Rattle.std.proofs.lemmas.Option.{same_Some}
+use Rattle.std.proofs.lemmas.Option.{none-some, same_Some}
 use Rattle.cil_model.specs.Values.{Heap, IsHeap}
 use Rattle.cil_model.specs.declared.machine.Value.{Value}
+use Rattle.cil_model.specs.declared.machine.Value.TheVariants as values
 use Rattle.cil_model.specs.declared.place.Kind.{Kind}
+use Rattle.domain_api.specs.declared.expr.Expr.{Expr}
 use Rattle.frame_names.specs.declared.var.Var.{Var}
+use Rattle.frame_names.specs.declared.var.Var.TheVariants as vars
+use Rattle.symbolic_values.specs.Worth.{worth}
 use Rattle.state_facts.specs.Forms.{HasForm}
 use Rattle.state_facts.specs.Holds.{HasValue, HaveValues, HoldsBy, HoldsIn}
 use Rattle.state_facts.specs.Keeps.{HoldsOn}
@@ -108,6 +112,26 @@ pub popped_holds : (after : StateFacts) (vs : List Value) (x : Value) (heap : He
 popped_holds after vs x heap number array holds =
     subst (λ l. HoldsBy (popped after) l heap number array) (all_but_top vs x)
     (pop_keeps (Some after) (vs ++ x ∷ []) heap number array holds)
+
+-- ---- variables by their values
+
+-- What is so of each number that is worth an int32 is so of the variable that has it.
+pub int_by_number : (number : ℕ → ℤ) (array : ℕ → Option ℕ) (P : Var → Type 0) (v : Var) (n : ℤ)
+    → HasValue number array v (values.Int n)
+    → ((e : Expr) → n ≡ worth number e → P (vars.Number e)) → P v
+int_by_number number array P (vars.Number e) n has each = each e (same_Some n (worth number e) has)
+int_by_number number array P (vars.Reference r) n has each = absurd (none-some _ has)
+int_by_number number array P vars.Text n has each = absurd cc
+int_by_number number array P (vars.Address r e) n has each = absurd (none-some _ has)
+
+-- So of each reference that is an array.
+pub array_by_reference : (number : ℕ → ℤ) (array : ℕ → Option ℕ) (P : Var → Type 0) (v : Var) (a : ℕ)
+    → HasValue number array v (values.Array a)
+    → ((r : ℕ) → array r ≡ Some a → P (vars.Reference r)) → P v
+array_by_reference number array P (vars.Reference r) a has each = each r (sym (same_Some (Some a) (array r) has))
+array_by_reference number array P (vars.Number e) a has each = absurd (none-some _ has)
+array_by_reference number array P vars.Text a has each = absurd cc
+array_by_reference number array P (vars.Address r e) a has each = absurd (none-some _ has)
 
 -- ---- steps with operands
 

@@ -34,7 +34,7 @@ use Rattle.clause_trees.proofs.KeptNodes.{binary_node, element_node, length_node
 use Rattle.clause_trees.proofs.KeptSteps.{comes, held_so, one_kept, two_kept}
 use Rattle.clause_trees.proofs.PushedTrees.{below_readable, stays_readable, value_pushed}
 use Rattle.clause_trees.proofs.Stays.{pushed_readable}
-use Rattle.clause_trees.proofs.Typing.{branches_typed, element_typed, length_typed, old_typed, operator_typed, unary_typed}
+use Rattle.clause_trees.proofs.Typing.{branches_typed, element_typed, length_typed, old_typed, operator_typed, tree_kind, unary_typed}
 use Rattle.clause_trees.proofs.ValueKinds.{args_at, both_tells, element_tells, heap_at, kept_from, kind_is_value, kind_kept, old_at, one_tells, result_at, value_fits}
 
 -- ---- leaves
@@ -256,6 +256,7 @@ module _ (env : TreeEnv) (args : List Place) (result : Place) (heap : Heap) (r :
       condition_kept y below.left below.right kind (value env time a) (value env time b) v so x is vs heap later
       later_array lies.grown.form
       lies.there reads.is_heap value_one still has truth below.merged
+      (tree_kind args result a time below.left below.first) (tree_kind args result b time below.right below.second)
       (λ z stays. value_pushed env args result a time below.left z (stays_readable env args result y z here stays)
       below.first)
       (λ z stays. value_pushed env args result b time below.right z (stays_readable env args result y z here stays)

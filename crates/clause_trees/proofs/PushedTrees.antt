@@ -21,7 +21,7 @@ use Rattle.state_facts.specs.StateFacts.{StateFacts, State, reference_at}
 use Rattle.state_facts.specs.UnknownValues as unknown
 use Rattle.state_facts.proofs.AssumptionForms.{named_var}
 use Rattle.state_obligations.specs.Following.{StaysThere, StaysThereIn}
-use Rattle.state_obligations.proofs.Following.{comparison_follows}
+use Rattle.state_obligations.proofs.Following.{comparison_follows, stays_itself}
 use Rattle.clause_trees.specs.Meaning.{IsTyped}
 use Rattle.clause_trees.specs.TreeValues.{Step, branch, condition_value, given, in_state, push_seen, seen_in, seen_of, seen_of_both, seen_of_reached, seen_on_top, true_known, value, variable, with_one}
 use Rattle.clause_trees.specs.VariableKinds.{IsOfKind, IsOfPlace, IsOneOfKind, IsPushed, IsPushedIn, IsReadable, place_in}
@@ -33,7 +33,7 @@ use Rattle.clause_trees.specs.declared.reader.TreeEnv.{TreeEnv}
 use Rattle.clause_trees.proofs.PushedMoves.{unknown_pushed, within_pushed}
 use Rattle.clause_trees.proofs.PushedValues.{binary_pushed, constant_there, element_pushed, length_pushed, one_pushed, two_pushed, unary_pushed}
 use Rattle.clause_trees.proofs.Stays.{IsBelow, Extends, found_var, push_is_pushed, pushed_readable, pushed_there, readable_on, stays_grown, top_is}
-use Rattle.clause_trees.proofs.Typing.{branches_typed, element_typed, length_typed, merged_swaps, old_typed, operator_typed, unary_typed}
+use Rattle.clause_trees.proofs.Typing.{branches_typed, element_typed, length_typed, merged_cases, merged_swaps, old_typed, operator_typed, unary_typed}
 
 -- ---- what is seen of a branch
 
@@ -79,6 +79,8 @@ top_seen known kinds.Bools (vars.Reference zero) there is = tt
 top_seen known kinds.Bools (vars.Reference (suc r)) there is = place_seen known r places.Bools there is
 top_seen known kinds.NullRef (vars.Reference zero) there is = tt
 top_seen known kinds.NullRef (vars.Reference (suc r)) there is = absurd (omega (arith, is))
+top_seen known kinds.AddrInts (vars.Address r e) there is = tt
+top_seen known kinds.AddrBools (vars.Address r e) there is = tt
 top_seen known _ _ there is = elim is [ ]
 
 pub pushed_seen : (known after : StateFacts) (kind : Kind) → IsPushed known kind after
@@ -90,26 +92,27 @@ pushed_seen known after kind is =
 -- ---- both branches
 
 pub left_seen : (a b kind : Kind) (s : Seen) → merged_kind a b ≡ Some kind → IsSeen a s → IsSeen kind s
-left_seen kinds.Int kinds.Int kind s is so = subst (λ k. IsSeen k s) (same_Some kinds.Int kind is) so
-left_seen kinds.Ints kinds.Ints kind s is so = subst (λ k. IsSeen k s) (same_Some kinds.Ints kind is) so
-left_seen kinds.Bools kinds.Bools kind s is so = subst (λ k. IsSeen k s) (same_Some kinds.Bools kind is) so
-left_seen kinds.NullRef kinds.NullRef kind s is so = subst (λ k. IsSeen k s) (same_Some kinds.NullRef kind is) so
-left_seen kinds.Ints kinds.NullRef kind s is so = subst (λ k. IsSeen k s) (same_Some kinds.Ints kind is) so
-left_seen kinds.Bools kinds.NullRef kind s is so = subst (λ k. IsSeen k s) (same_Some kinds.Bools kind is) so
-left_seen kinds.NullRef kinds.Ints kind seen.Null is so =
-    subst (λ k. IsSeen k seen.Null) (same_Some kinds.Ints kind is) tt
-left_seen kinds.NullRef kinds.Bools kind seen.Null is so =
-    subst (λ k. IsSeen k seen.Null) (same_Some kinds.Bools kind is) tt
-left_seen _ _ kind s is so = absurd (first_of (cc, search))
+left_seen a b kind s is =
+    merged_cases (λ a b kind. IsSeen a s → IsSeen kind s) (λ k so. so) (λ so. so) (λ so. so) (null_ints s)
+    (null_bools s) a b kind is
+  where
+    null_ints : (s : Seen) → IsSeen kinds.NullRef s → IsSeen kinds.Ints s
+    null_ints seen.Null so = tt
+    null_ints _ so = elim so [ ]
+
+    null_bools : (s : Seen) → IsSeen kinds.NullRef s → IsSeen kinds.Bools s
+    null_bools seen.Null so = tt
+    null_bools _ so = elim so [ ]
 
 both_seen : (kind : Kind) (s t : Seen) → IsSeen kind s → IsSeen kind t → IsSeen kind (seen_of_both s t)
 both_seen kinds.Int (seen.Number r) (seen.Number q) one two = tt
+both_seen kinds.Int (seen.Number r) _ one two = elim two [ ]
 both_seen kinds.Ints seen.Null t one two = two
 both_seen kinds.Ints (seen.Array place) t one two = one
 both_seen kinds.Bools seen.Null t one two = two
 both_seen kinds.Bools (seen.Array place) t one two = one
 both_seen kinds.NullRef seen.Null t one two = two
-both_seen _ _ _ one two = absurd (first_of (search, cc))
+both_seen _ _ _ one two = elim one [ ]
 
 pub reached_seen : (a b kind : Kind) (s t : Option Seen) → merged_kind a b ≡ Some kind → IsSeenIf a s → IsSeenIf b t
     → IsSeenIf kind (seen_of_reached s t)
@@ -147,8 +150,8 @@ true_follows holds (vars.Number e) known form there =
     (named_var known (vars.Number e) there) (omega arith)
 true_follows holds (vars.Reference r) known form there =
     comparison_follows comparisons.NeUn (vars.Reference r) (vars.Reference 0) holds known form tt tt
-true_follows holds vars.Text known form there =
-    record { form = form; symbols = omega arith; variables = refl; references = refl }
+true_follows holds vars.Text known form there = stays_itself known form
+true_follows holds (vars.Address r e) known form there = stays_itself known form
 
 -- What is taken where a test is so, over what was known behind the test.
 abbrev pub PushesBehind : StateFacts → Kind → Step → Type 0

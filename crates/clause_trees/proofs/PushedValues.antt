@@ -32,7 +32,7 @@ use Rattle.clause_trees.specs.VariableKinds.{IsOfKind, IsPushed, IsPushedIn}
 use Rattle.clause_trees.specs.declared.reader.Time.{Time}
 use Rattle.clause_trees.specs.declared.reader.Time.TheVariants.{Now, Entry}
 use Rattle.clause_trees.proofs.PushedMoves.{item_pushed, numbers_compared_pushed, references_compared_pushed, result_pushed, unknown_pushed}
-use Rattle.clause_trees.proofs.Stays.{IsBelow, grown_on, kind_there, popped_below, popped_kind, push_is_pushed, pushed_over, pushed_there, second_of, stays_grown, top_is, var_there}
+use Rattle.clause_trees.proofs.Stays.{IsBelow, grown_on, kind_there, popped_below, popped_kind, push_is_pushed, pushed_over, pushed_there, second_of, stays_grown, top_is, var_popped, var_there}
 
 -- ---- operands
 
@@ -67,10 +67,6 @@ pub record HasTwo (known : StateFacts) (first second : Kind) (v w : Var) (after 
   pub lower_is : from_top 1 after ≡ Some v
   pub upper_is : from_top 0 after ≡ Some w
   pub below : AreBelow known first second v w (popped (popped after))
-
-var_popped : (after : StateFacts) (v : Var) → HasVar after v → HasVar (popped after) v
-unfolding popped
-var_popped after v there = there
 
 pub lower_pushed : (known between after : StateFacts) (first second : Kind) → IsPushed known first between
     → IsPushed between second after
@@ -145,8 +141,7 @@ length_pushed known (vars.Reference r) form there =
     owed_pushed known (operations.Length r) kinds.Int (push_length r) form (there, tt) refl
     (λ x stays. push_is_pushed x kinds.Int (vars.Number (length_at x r)) stays.form
     (length_number x r stays.form (var_there known x (vars.Reference r) (stays_grown known x stays) there)) tt)
-length_pushed known (vars.Number e) form there = tt
-length_pushed known vars.Text form there = tt
+length_pushed known _ form there = tt
 
 item_is_number : (place : Place) → kind_of (item_place place) ≡ Some kinds.Int
 item_is_number places.Bools = refl
@@ -171,10 +166,7 @@ element_pushed time place known (vars.Reference r) (vars.Number i) form first se
     owed_pushed known (operations.Element r i) kinds.Int (push_item time place r i) form
     (first, (second, ((first, second), tt)))
     (no_item time place r i) (λ x stays. pushed_item time place r i x stays.form)
-element_pushed time place known (vars.Reference r) (vars.Reference q) form first second = tt
-element_pushed time place known (vars.Reference r) vars.Text form first second = tt
-element_pushed time place known (vars.Number e) w form first second = tt
-element_pushed time place known vars.Text w form first second = tt
+element_pushed time place known _ _ form first second = tt
 
 -- ---- operators
 
@@ -212,15 +204,7 @@ binary_pushed op known v w form first second = by (comparison_of op) v w refl fi
     by (Some cmp) (vars.Number a) (vars.Number b) is one two = numbers_compared_pushed op a b cmp known form one two is
     by (Some cmp) (vars.Reference r) (vars.Reference q) is one two =
         references_compared_pushed op r q cmp known form one two is
-    by None (vars.Number a) (vars.Reference q) is one two = tt
-    by None (vars.Number a) vars.Text is one two = tt
-    by None (vars.Reference r) w is one two = tt
-    by None vars.Text w is one two = tt
-    by (Some cmp) (vars.Number a) (vars.Reference q) is one two = tt
-    by (Some cmp) (vars.Number a) vars.Text is one two = tt
-    by (Some cmp) (vars.Reference r) (vars.Number b) is one two = tt
-    by (Some cmp) (vars.Reference r) vars.Text is one two = tt
-    by (Some cmp) vars.Text w is one two = tt
+    by _ _ _ is one two = tt
 
 pub constant_there : (known : StateFacts) (n : ℤ) → FitsSigned w32 n → HasNumber known (constant n)
 constant_there known n fits =
@@ -239,5 +223,4 @@ pub unary_pushed : (op : UnOp) (known : StateFacts) (v : Var) → HasForm known 
 unary_pushed op known (vars.Number e) form there =
     arithmetic_pushed operators.Sub (constant (minuend op)) e known form
     (constant_there known (minuend op) (minuend_fits op)) there
-unary_pushed op known (vars.Reference r) form there = tt
-unary_pushed op known vars.Text form there = tt
+unary_pushed op known _ form there = tt

@@ -13,7 +13,7 @@ use Rattle.cil_model.specs.declared.place.Place.TheVariants as places
 use Rattle.domain_api.specs.declared.expr.Expr.{Expr}
 use Rattle.frame_names.specs.Frames as frames
 use Rattle.frame_names.specs.Frames.{AreAlike}
-use Rattle.frame_names.specs.Meaning.{SaysBoth, Said, an_array, said}
+use Rattle.frame_names.specs.Meaning.{SaysBoth, Said, an_address, an_array, said}
 use Rattle.frame_names.specs.MergedReferences.{merged_references, one_place}
 use Rattle.frame_names.specs.PairedFrames.{FramePairing, behind, old_at, paired_frames}
 use Rattle.frame_names.specs.declared.reference.Reference.{Reference}
@@ -31,12 +31,12 @@ use Rattle.merged_states.specs.Parts.{entry_of, numbers_known}
 use Rattle.merged_states.specs.declared.merging.Merging.TheVariants as rules
 use Rattle.merged_states.specs.Laws.Frames.{alike_of, same_entry}
 use Rattle.merged_states.proofs.Formed.{merged_form}
-use Rattle.state_facts.specs.Forms.{HasForm, HasVar, IsArrayPlace, IsReference, IsVar}
+use Rattle.state_facts.specs.Forms.{HasForm, HasVar, IsArrayPlace, IsReference}
 use Rattle.state_facts.specs.StateFacts.{StateFacts, State, both_of_same_place, reference_at}
 use Rattle.clause_trees.specs.VariableKinds.{AreSameForms, HasSameForms, HasSameFormsIn, IsGrown, IsOfKind, IsOfPlace, IsOneOfKind, IsReadable, IsSameForm, place_in}
 use Rattle.clause_trees.specs.declared.reader.TreeEnv.{TreeEnv}
 use Rattle.clause_trees.proofs.PushedTrees.{reference_found}
-use Rattle.clause_trees.proofs.Stays.{found_var}
+use Rattle.clause_trees.proofs.Stays.{forms_there, found_var}
 
 -- ---- the same forms
 
@@ -44,13 +44,19 @@ same_swaps : (a b : StateFacts) (v w : Var) → IsSameForm a b v w → IsSameFor
 same_swaps a b (vars.Number e) (vars.Number f) same = tt
 same_swaps a b (vars.Reference r) (vars.Reference q) same = sym same
 same_swaps a b vars.Text vars.Text same = tt
+same_swaps a b (vars.Address r e) (vars.Address q f) same = sym same
 same_swaps a b _ _ same = elim same [ ]
 
 same_on : (a b c : StateFacts) (v w u : Var) → IsSameForm a b v w → IsSameForm b c w u → IsSameForm a c v u
 same_on a b c (vars.Number e) (vars.Number f) (vars.Number g) one two = tt
+same_on a b c (vars.Number e) (vars.Number f) _ one two = elim two [ ]
 same_on a b c (vars.Reference r) (vars.Reference q) (vars.Reference p) one two = two ∙ one
+same_on a b c (vars.Reference r) (vars.Reference q) _ one two = elim two [ ]
 same_on a b c vars.Text vars.Text vars.Text one two = tt
-same_on a b c _ _ _ one two = absurd (first_of (search, cc))
+same_on a b c vars.Text vars.Text _ one two = elim two [ ]
+same_on a b c (vars.Address r e) (vars.Address q f) (vars.Address p g) one two = two ∙ one
+same_on a b c (vars.Address r e) (vars.Address q f) _ one two = elim two [ ]
+same_on a b c _ _ _ one two = elim one [ ]
 
 pub all_swap : (a b : StateFacts) (vs ws : List Var) → AreSameForms a b vs ws → AreSameForms b a ws vs
 all_swap a b [] [] same = tt
@@ -76,19 +82,12 @@ same_forms_on known x (Some after) same rest = record {
 }
 
 -- What stays has the same forms.
-still_same : (known after : StateFacts) (vs : List Var) → IsGrown known after
-    → AllByRecursion (IsVar (length known.facts.ranges) (length known.references)) vs → AreSameForms known after vs vs
-still_same known after [] grown all = tt
-still_same known after (vars.Number e ∷ vs) grown all = (tt, still_same known after vs grown all.1)
-still_same known after (vars.Reference r ∷ vs) grown all = (grown.places r all.0, still_same known after vs grown all.1)
-still_same known after (vars.Text ∷ vs) grown all = (tt, still_same known after vs grown all.1)
-
 pub grown_same : (known after : StateFacts) → HasForm known → IsGrown known after → after.variables ≡ known.variables
     → HasSameForms known after
 grown_same known after form grown same = record {
   form = grown.form;
   variables = subst (AreSameForms known after known.variables) (sym same)
-      (still_same known after known.variables grown form.variables);
+      (forms_there known after known.variables grown form.variables);
 }
 
 -- ---- reading them
@@ -121,7 +120,15 @@ kind_same a b kinds.Bools (vars.Reference r) (vars.Reference q) same there is =
     subst (IsOfPlace places.Bools) (sym same) is
 kind_same a b kinds.NullRef (vars.Reference r) (vars.Reference q) same there is =
     no_place b q there (same ∙ first_place a r is)
-kind_same a b _ _ _ same there is = absurd (first_of (search, cc))
+kind_same a b kinds.AddrInts (vars.Address r e) (vars.Address q f) same there is = same ∙ is
+kind_same a b kinds.AddrBools (vars.Address r e) (vars.Address q f) same there is = same ∙ is
+kind_same a b kinds.Int (vars.Number e) _ same there is = elim same [ ]
+kind_same a b kinds.Ints (vars.Reference r) _ same there is = elim same [ ]
+kind_same a b kinds.Bools (vars.Reference r) _ same there is = elim same [ ]
+kind_same a b kinds.NullRef (vars.Reference r) _ same there is = elim same [ ]
+kind_same a b kinds.AddrInts (vars.Address r e) _ same there is = elim same [ ]
+kind_same a b kinds.AddrBools (vars.Address r e) _ same there is = elim same [ ]
+kind_same a b _ _ _ same there is = elim is [ ]
 
 one_same : (a b : StateFacts) (kind : Kind) (i : ℕ) → HasSameForms a b → IsOneOfKind a kind (slice_get a.variables i)
     → IsOneOfKind b kind (slice_get b.variables i)
@@ -161,9 +168,11 @@ same_like a b (vars.Number e ∷ vs) (vars.Number f ∷ ws) same = (tt, same_lik
 same_like a b (vars.Reference r ∷ vs) (vars.Reference q ∷ ws) same =
     (alike_places (reference_at a.references r) (reference_at b.references q) same.0, same_like a b vs ws same.1)
 same_like a b (vars.Text ∷ vs) (vars.Text ∷ ws) same = (tt, same_like a b vs ws same.1)
+same_like a b (vars.Address r e ∷ vs) (vars.Address q f ∷ ws) same =
+    (alike_places (reference_at a.references r) (reference_at b.references q) same.0, same_like a b vs ws same.1)
 same_like a b [] (w ∷ ws) same = elim same [ ]
 same_like a b (v ∷ vs) [] same = elim same [ ]
-same_like a b (_ ∷ vs) (_ ∷ ws) same = absurd (first_of (search, cc))
+same_like a b (_ ∷ vs) (_ ∷ ws) same = elim same.0 [ ]
 
 -- ---- the place of a new reference
 
@@ -250,14 +259,24 @@ module _ (a b c : StateFacts) (keys : List Key) (lengths : List Expr) (form : Ha
   one_says : (v w u : Var) → IsSameForm a b v w → Says true number later u v → Says false other more u w
       → IsSameForm a c v u
   one_says (vars.Number e) (vars.Number f) (vars.Number g) same first second = tt
+  one_says (vars.Number e) (vars.Number f) _ same first second = absurd cc
   one_says (vars.Reference r) (vars.Reference s) (vars.Reference q) same first second =
       paired_place a b c keys lengths r s q form are (arrays (old_at true keys q) r first)
       (arrays (old_at false keys q) s second) same
     where
       arrays : (m n : ℕ) → an_array (Some m) ≡ an_array (Some n) → m ≡ n
       arrays m n is = cc
+  one_says (vars.Reference r) (vars.Reference s) _ same first second = absurd cc
   one_says vars.Text vars.Text vars.Text same first second = tt
-  one_says _ _ _ same first second = absurd (first_of (search, cc))
+  one_says vars.Text vars.Text _ same first second = absurd cc
+  one_says (vars.Address r e) (vars.Address s f) (vars.Address q g) same first second =
+      paired_place a b c keys lengths r s q form are (arrays (old_at true keys q) r _ _ first)
+      (arrays (old_at false keys q) s _ _ second) same
+    where
+      arrays : (m n : ℕ) (x y : ℤ) → an_address (Some m) x ≡ an_address (Some n) y → m ≡ n
+      arrays m n x y is = cc
+  one_says (vars.Address r e) (vars.Address s f) _ same first second = absurd cc
+  one_says _ _ _ same first second = elim same [ ]
 
   all_say : (vs ws us : List Var) → AreSameForms a b vs ws
       → map (said later (λ q. Some (old_at true keys q))) us ≡ map (said number (λ r. Some r)) vs

@@ -1,13 +1,13 @@
 -- What is shown is so.
-use Rattle.std.proofs.Common.{◌≡◌, inl, inr, ℕ, ℤ, pos, ◌≤ℤ◌, int_eq, Bool, true, false, not, ◌&&◌, List, [], ◌∷◌, ◌++◌, slice_get, Option, Some, None, if◌then◌else◌, refl, ap, subst, sym, ◌∙◌, arith}
+use Rattle.std.proofs.Common.{◌≡◌, inl, inr, ℕ, ℤ, pos, ◌≤ℤ◌, int_eq, Bool, true, false, not, ◌&&◌, List, [], ◌∷◌, ◌++◌, Option, Some, None, if◌then◌else◌, refl, ap, subst, sym, ◌∙◌, arith}
 use Rattle.std.specs.Option.{option_and_then}
 use Rattle.std.proofs.lemmas.Bool.{and_parts, false≢true}
 use Rattle.std.proofs.lemmas.Int.{ints}
-use Rattle.std.proofs.lemmas.Option.{none-some, same_Some}
+use Rattle.std.proofs.lemmas.Option.{same_Some}
 use Rattle.cil_model.specs.Clauses.{Reading, binary_value, both, chosen, is_number_true, value_of}
 use Rattle.cil_model.specs.Comparisons.{is_true}
 use Rattle.cil_model.specs.FitKinds.{FitsKind}
-use Rattle.cil_model.specs.Kinds.{is_tested, kind_of, pushes_comparison}
+use Rattle.cil_model.specs.Kinds.{is_tested, pushes_comparison}
 use Rattle.cil_model.specs.Passes.{merged_kind}
 use Rattle.cil_model.specs.Terms as terms
 use Rattle.cil_model.specs.Terms.{Term}
@@ -20,7 +20,6 @@ use Rattle.cil_model.specs.declared.machine.Value.TheVariants as values
 use Rattle.cil_model.specs.declared.place.Kind.{Kind}
 use Rattle.cil_model.specs.declared.place.Kind.TheVariants as kinds
 use Rattle.cil_model.specs.declared.place.Place.{Place}
-use Rattle.cil_model.specs.declared.place.Place.TheVariants as places
 use Rattle.cil_model.proofs.KindValues.{tested}
 use Rattle.domain_api.specs.declared.expr.Expr.{Expr}
 use Rattle.frame_names.specs.declared.var.Var.{Var}
@@ -38,8 +37,7 @@ use Rattle.clause_trees.specs.ClauseStates.{assumed, is_known, is_top_known, sho
 use Rattle.clause_trees.specs.Meaning.{IsSo, IsTest, IsTyped, Reads, ShowsIt}
 use Rattle.clause_trees.specs.TreeValues.{value}
 use Rattle.clause_trees.specs.VariableKinds.{HasSameFormsIn, IsOfKind, IsReadable}
-use Rattle.clause_trees.specs.declared.reader.Time.{Time}
-use Rattle.clause_trees.specs.declared.reader.Time.TheVariants.{Now, Entry}
+use Rattle.clause_trees.specs.declared.reader.Time.TheVariants.{Now}
 use Rattle.clause_trees.specs.declared.reader.TreeEnv.{TreeEnv}
 use Rattle.clause_trees.proofs.AssumedKept.{assumed_kept, itself_same}
 use Rattle.clause_trees.proofs.AssumedTrees.{IsNegation, assumed_same, negation_or_value, negation_shown}
@@ -49,77 +47,20 @@ use Rattle.clause_trees.proofs.KeptTrees.{fits_now, value_kept}
 use Rattle.clause_trees.proofs.PushedTrees.{value_pushed}
 use Rattle.clause_trees.proofs.SameForms.{readable_same}
 use Rattle.clause_trees.proofs.Stays.{pushed_there, top_is}
-use Rattle.clause_trees.proofs.Typing.{branches_typed, element_typed, length_typed, old_typed, operator_typed, unary_typed}
+use Rattle.clause_trees.proofs.Typing.{branches_typed, merged_cases, operator_typed, tree_kind}
 
 -- ---- kinds
 
-no_native_place : (o : Option Place) → option_and_then kind_of o ≡ Some kinds.Native → ⊥
-no_native_place None is = none-some kinds.Native is
-no_native_place (Some places.Void) is = none-some kinds.Native is
-no_native_place (Some places.Bool) is = absurd cc
-no_native_place (Some places.Int) is = absurd cc
-no_native_place (Some places.Bools) is = absurd cc
-no_native_place (Some places.Ints) is = absurd cc
-
-merged_native : (a b : Kind) → merged_kind a b ≡ Some kinds.Native → a ≡ kinds.Native
-merged_native kinds.Int kinds.Int is = absurd cc
-merged_native kinds.Native kinds.Native is = refl
-merged_native kinds.Ints kinds.Ints is = absurd cc
-merged_native kinds.Bools kinds.Bools is = absurd cc
-merged_native kinds.NullRef kinds.NullRef is = absurd cc
-merged_native kinds.Text kinds.Text is = absurd cc
-merged_native kinds.Ints kinds.NullRef is = absurd cc
-merged_native kinds.NullRef kinds.Ints is = absurd cc
-merged_native kinds.Bools kinds.NullRef is = absurd cc
-merged_native kinds.NullRef kinds.Bools is = absurd cc
-merged_native _ _ is = absurd cc
-
-int_not_native : kinds.Int ≡ kinds.Native → ⊥
-int_not_native is = cc
-
--- No tree has the kind of a length.
-never_native : (args : List Place) (result : Place) (t : Term) (time : Time) → IsTyped args result time t kinds.Native
-    → ⊥
-never_native args result (terms.Const n) time typed = int_not_native (same_Some kinds.Int kinds.Native typed.kind_is)
-never_native args result (terms.Arg n) time typed = no_native_place (slice_get args n) typed.kind_is
-never_native args result terms.Null time typed = absurd (null (same_Some kinds.NullRef kinds.Native typed.kind_is))
-  where
-    null : kinds.NullRef ≡ kinds.Native → ⊥
-    null is = cc
-never_native args result terms.Result Now typed = no_native_place (Some result) typed.kind_is
-never_native args result terms.Result Entry typed = none-some kinds.Native typed.kind_is
-never_native args result (terms.Len a) time typed =
-    int_not_native (length_typed args result time a kinds.Native typed).int
-never_native args result (terms.Elem place a b) time typed =
-    int_not_native (element_typed args result time place a b kinds.Native typed).int
-never_native args result (terms.Bin op a b) time typed =
-    int_not_native (operator_typed args result time op a b kinds.Native typed).int
-never_native args result (terms.Un op a) time typed =
-    int_not_native (unary_typed args result time op a kinds.Native typed).int
-never_native args result (terms.Old a) time typed =
-    never_native args result a Entry (old_typed args result time a kinds.Native typed).1
-never_native args result (terms.Cond c a b) time typed =
-    let below = branches_typed args result time c a b kinds.Native typed in
-    never_native args result a time
-    (subst (IsTyped args result time a) (merged_native below.left below.right below.merged) below.first)
-
 merged_int : (a b : Kind) → merged_kind a b ≡ Some kinds.Int → (a ≡ kinds.Int) × (b ≡ kinds.Int)
-merged_int kinds.Int kinds.Int is = (refl, refl)
-merged_int kinds.Native kinds.Native is = absurd cc
-merged_int kinds.Ints kinds.Ints is = absurd cc
-merged_int kinds.Bools kinds.Bools is = absurd cc
-merged_int kinds.NullRef kinds.NullRef is = absurd cc
-merged_int kinds.Text kinds.Text is = absurd cc
-merged_int kinds.Ints kinds.NullRef is = absurd cc
-merged_int kinds.NullRef kinds.Ints is = absurd cc
-merged_int kinds.Bools kinds.NullRef is = absurd cc
-merged_int kinds.NullRef kinds.Bools is = absurd cc
-merged_int _ _ is = absurd cc
+merged_int a b is =
+    merged_cases (λ a b kind. kind ≡ kinds.Int → (a ≡ kinds.Int) × (b ≡ kinds.Int)) (λ k same. (same, same))
+    (λ same. absurd cc) (λ same. absurd cc) (λ same. absurd cc) (λ same. absurd cc) a b kinds.Int is refl
 
 compared_kind : (args : List Place) (result : Place) (a : Term) (kind : Kind) → IsTyped args result Now a kind
     → pushes_comparison comparisons.Eq kind kinds.Int ≡ true → kind ≡ kinds.Int
 compared_kind args result a kinds.Int typed is = refl
-compared_kind args result a kinds.Native typed is = absurd (never_native args result a Now typed)
+compared_kind args result a kinds.Native typed is =
+    absurd (false≢true (tree_kind args result a Now kinds.Native typed))
 compared_kind args result a _ typed is = absurd (false≢true is)
 
 negated_typed : (args : List Place) (result : Place) (op : BinOp) (a b : Term) (kind : Kind) → IsNegation op b
@@ -166,11 +107,7 @@ negated_so : (holds : Bool) (o : Option Value) → IsSoOf (not holds) o
 negated_so true o so = subst
     (λ p. is_number_true (both p (Some (values.Int (pos 0))) (binary_value operators.Ceq)) ≡ true) (sym so) refl
 negated_so false (Some (values.Int n)) so = equal_zero n so
-negated_so false None so = absurd (false≢true so)
-negated_so false (Some (values.Native n)) so = absurd (false≢true so)
-negated_so false (Some values.Null) so = absurd (false≢true so)
-negated_so false (Some (values.Array i)) so = absurd (false≢true so)
-negated_so false (Some values.Text) so = absurd (false≢true so)
+negated_so false _ so = absurd (false≢true so)
 
 negation_so : (op : BinOp) (a b : Term) (r : Reading) (holds : Bool) → IsNegation op b → IsSo (not holds) a r
     → IsSo holds (terms.Bin op a b) r
@@ -214,8 +151,7 @@ top_so holds after (vars.Number e) (values.Int n) ws heap number array there of_
     (subst (Has (range_of after.facts e)) (sym (same_Some n (worth number e) has))
     (range_has after.facts number e holding.facts.allowed there.there))
 top_so holds after (vars.Number e) _ ws heap number array there of_kind fits holding has is = elim fits [ ]
-top_so holds after (vars.Reference r) x ws heap number array there of_kind fits holding has is = elim of_kind [ ]
-top_so holds after vars.Text x ws heap number array there of_kind fits holding has is = elim of_kind [ ]
+top_so holds after _ x ws heap number array there of_kind fits holding has is = elim of_kind [ ]
 
 -- ---- trees
 

@@ -1,7 +1,7 @@
 -- What lies on the stack, and what is made of it.
-use Rattle.std.proofs.Common.{◌≡◌, ℕ, ℤ, Bool, true, false, ◌&&◌, Option, Some, None, List, [], ◌∷◌, refl, sym, ap, subst, ◌∙◌}
-use Rattle.std.specs.Prelude.{◌↔◌, IfSome, IsSome, IsTrue, is_some, not, slice_get, reverse}
-use Rattle.std.specs.Option.{ForSome, option_and_then}
+use Rattle.std.proofs.Common.{◌≡◌, ℕ, Bool, true, false, Option, Some, None, refl, sym, subst, ◌∙◌}
+use Rattle.std.specs.Prelude.{◌↔◌, IfSome, IsSome, IsTrue, is_some, not}
+use Rattle.std.specs.Option.{ForSome}
 use Rattle.std.proofs.lemmas.Bool.{false≢true}
 use Rattle.cil_model.specs.Comparisons.{comparison_of}
 use Rattle.cil_model.specs.declared.instruction.BinOp.{BinOp}
@@ -13,15 +13,10 @@ use Rattle.state_facts.specs.StateFacts.{StateFacts, State}
 use Rattle.state_facts.specs.States.{pop}
 use Rattle.frame_names.specs.declared.var.Var.{Var}
 use Rattle.frame_names.specs.declared.var.Var.TheVariants as vars
-use Rattle.clause_trees.specs.TreeValues.{Finds, arithmetic, binary_by, binary_value, comparison, in_state, refusing, top_in}
+use Rattle.clause_trees.specs.TreeValues.{Finds, arithmetic, binary_by, binary_value, comparison, in_state, refusing}
+use Rattle.clause_trees.proofs.Stays.{var_popped}
 
 -- ---- what is there
-
-in_popped : (known : StateFacts) (v : Var) → HasVar known v → HasVar (popped known) v
-unfolding popped
-in_popped known (vars.Number e) there = there
-in_popped known (vars.Reference r) there = there
-in_popped known vars.Text there = there
 
 same_known : (a b : StateFacts) → Some a ≡ Some b → a ≡ b
 same_known a b is = cc
@@ -31,7 +26,7 @@ still_there None after v is there = λ x at. absurd (none x (sym is ∙ at))
   where
     none : (x : StateFacts) → None ≡ Some x → ⊥
     none x at = cc
-still_there (Some known) after v is there = λ x at. subst (λ (k : StateFacts). HasVar k v) (same_known (popped known) x (sym is ∙ at)) (in_popped known v (there known refl))
+still_there (Some known) after v is there = λ x at. subst (λ (k : StateFacts). HasVar k v) (same_known (popped known) x (sym is ∙ at)) (var_popped known v (there known refl))
 
 pub top_still_there : (state after : State) (o : Option Var) → after ≡ pop state → IfSome o (λ v. ForSome state (λ known. HasVar known v))
     → IfSome o (λ v. ForSome after (λ known. HasVar known v))
@@ -90,7 +85,7 @@ references_refused op r q state is = by (comparison_of op) is
     by None is = refl
     by (Some cmp) is = absurd (false≢true (sym is))
 
--- A number and a reference, or a text.
+-- A number and a reference, or a text or an address.
 abbrev pub AreMixed : Var → Var → Type 0
 AreMixed (vars.Number a) (vars.Number b) = ⊥
 AreMixed (vars.Reference r) (vars.Reference q) = ⊥
@@ -101,17 +96,9 @@ mixed_refused op v w state mixed = by (comparison_of op) v w mixed
   where
     by : (o : Option CmpOp) (v w : Var) → AreMixed v w → in_state (binary_by op o v w) state ≡ in_state refusing state
     by None (vars.Number a) (vars.Number b) mixed = elim mixed [ ]
-    by None (vars.Number a) (vars.Reference q) mixed = refl
-    by None (vars.Number a) vars.Text mixed = refl
-    by None (vars.Reference r) w mixed = refl
-    by None vars.Text w mixed = refl
     by (Some cmp) (vars.Number a) (vars.Number b) mixed = elim mixed [ ]
-    by (Some cmp) (vars.Number a) (vars.Reference q) mixed = refl
-    by (Some cmp) (vars.Number a) vars.Text mixed = refl
-    by (Some cmp) (vars.Reference r) (vars.Number b) mixed = refl
     by (Some cmp) (vars.Reference r) (vars.Reference q) mixed = elim mixed [ ]
-    by (Some cmp) (vars.Reference r) vars.Text mixed = refl
-    by (Some cmp) vars.Text w mixed = refl
+    by _ _ _ mixed = refl
 
 pub ruleset two_numbers = (numbers_computed, numbers_compared)
 

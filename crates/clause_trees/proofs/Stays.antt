@@ -8,6 +8,7 @@ use Rattle.std.proofs.lemmas.Option.{same_Some, slice_get-map}
 use Rattle.cil_model.specs.declared.place.Kind.{Kind}
 use Rattle.cil_model.specs.declared.place.Kind.TheVariants as kinds
 use Rattle.cil_model.specs.declared.place.Place.{Place}
+use Rattle.cil_model.specs.declared.place.Place.TheVariants as places
 use Rattle.frame_names.specs.declared.reference.Reference.{Reference}
 use Rattle.frame_names.specs.declared.var.Var.{Var}
 use Rattle.frame_names.specs.declared.var.Var.TheVariants as vars
@@ -18,7 +19,7 @@ use Rattle.state_facts.proofs.Growing.{one_longer, var_stays}
 use Rattle.state_facts.proofs.MoveForms.{popped_form, pushed_form}
 use Rattle.state_obligations.specs.Following.{StaysThere, shape_of}
 use Rattle.clause_trees.specs.TreeValues.{from_top}
-use Rattle.clause_trees.specs.VariableKinds.{IsGrown, IsOfKind, IsOfPlace, IsOneOfKind, IsPushed, IsPushedIn, IsReadable, place_in}
+use Rattle.clause_trees.specs.VariableKinds.{AreSameForms, IsGrown, IsOfKind, IsOfPlace, IsOneOfKind, IsPushed, IsPushedIn, IsReadable, IsSameForm, place_in}
 use Rattle.clause_trees.specs.declared.reader.TreeEnv.{TreeEnv}
 
 -- ---- steps one after another
@@ -80,15 +81,43 @@ var_there before after v grown there =
     (length after.references) v grown.symbols
     grown.references there
 
+-- A variable has the form that it had, where what was there is there still.
+pub form_there : (before after : StateFacts) (v : Var) → IsGrown before after → HasVar before v
+    → IsSameForm before after v v
+form_there before after (vars.Number e) grown there = tt
+form_there before after (vars.Reference r) grown there = grown.places r there
+form_there before after vars.Text grown there = tt
+form_there before after (vars.Address r e) grown there = grown.places r there.0
+
+pub forms_there : (before after : StateFacts) (vs : List Var) → IsGrown before after
+    → AllByRecursion (IsVar (length before.facts.ranges) (length before.references)) vs
+    → AreSameForms before after vs vs
+forms_there before after [] grown all = tt
+forms_there before after (v ∷ vs) grown all =
+    (form_there before after v grown all.0, forms_there before after vs grown all.1)
+
+-- Also where each reference has its type.
+pub form_alike : (a b : StateFacts) (v : Var) → ((r : ℕ) → place_in b r ≡ place_in a r) → IsSameForm a b v v
+form_alike a b (vars.Number e) places = tt
+form_alike a b (vars.Reference r) places = places r
+form_alike a b vars.Text places = tt
+form_alike a b (vars.Address r e) places = places r
+
+-- Then it is of the kind of which it was.
+pub kind_by_form : (a b : StateFacts) (kind : Kind) (v : Var) → IsSameForm a b v v → IsOfKind a kind v
+    → IsOfKind b kind v
+kind_by_form a b kinds.Int (vars.Number e) same is = tt
+kind_by_form a b kinds.Ints (vars.Reference r) same is = subst (IsOfPlace places.Ints) (sym same) is
+kind_by_form a b kinds.Bools (vars.Reference r) same is = subst (IsOfPlace places.Bools) (sym same) is
+kind_by_form a b kinds.NullRef (vars.Reference r) same is = is
+kind_by_form a b kinds.AddrInts (vars.Address r e) same is = same ∙ is
+kind_by_form a b kinds.AddrBools (vars.Address r e) same is = same ∙ is
+kind_by_form a b _ _ same is = elim is [ ]
+
 pub kind_there : (before after : StateFacts) (kind : Kind) (v : Var) → IsGrown before after → HasVar before v
     → IsOfKind before kind v → IsOfKind after kind v
-kind_there before after kinds.Int (vars.Number e) grown there is = tt
-kind_there before after kinds.Ints (vars.Reference r) grown there is =
-    subst (IsOfPlace _) (sym (grown.places r there)) is
-kind_there before after kinds.Bools (vars.Reference r) grown there is =
-    subst (IsOfPlace _) (sym (grown.places r there)) is
-kind_there before after kinds.NullRef (vars.Reference r) grown there is = is
-kind_there before after _ _ grown there is = elim is [ ]
+kind_there before after kind v grown there is =
+    kind_by_form before after kind v (form_there before after v grown there) is
 
 pub found_var : (symbols references : ℕ) (vs : List Var) (i : ℕ) (v : Var)
     → AllByRecursion (IsVar symbols references) vs
@@ -175,6 +204,10 @@ last_there : (symbols references : ℕ) (vs : List Var) (v : Var) → AllByRecur
 last_there symbols references [] v all = all.0
 last_there symbols references (x ∷ vs) v all = last_there symbols references vs v all.1
 
+pub var_popped : (after : StateFacts) (v : Var) → HasVar after v → HasVar (popped after) v
+unfolding popped
+var_popped after v there = there
+
 pub pushed_there : (before after : StateFacts) (kind : Kind) (is : IsPushed before kind after) → HasVar after is.top
 pushed_there before after kind is =
     last_there (length after.facts.ranges) (length after.references) before.variables is.top
@@ -189,11 +222,8 @@ popped_variables before after kind is =
 
 pub popped_kind : (after : StateFacts) (kind : Kind) (v : Var) → IsOfKind after kind v → IsOfKind (popped after) kind v
 unfolding popped
-popped_kind after kinds.Int (vars.Number e) is = tt
-popped_kind after kinds.Ints (vars.Reference r) is = is
-popped_kind after kinds.Bools (vars.Reference r) is = is
-popped_kind after kinds.NullRef (vars.Reference r) is = is
-popped_kind after _ _ is = elim is [ ]
+popped_kind after kind v is =
+    kind_by_form after (popped after) kind v (form_alike after (popped after) v (λ r. refl)) is
 
 pub popped_below : (before after : StateFacts) (kind : Kind) (is : IsPushed before kind after)
     → IsBelow before kind is.top (popped after)
@@ -234,12 +264,5 @@ push_is_pushed known kind v form there of_kind = record {
   };
   top = v;
   variables_are = refl;
-  of_kind = same kind v of_kind;
+  of_kind = kind_by_form known (pushed known v) kind v (form_alike known (pushed known v) v (λ r. refl)) of_kind;
 }
-  where
-    same : (k : Kind) (w : Var) → IsOfKind known k w → IsOfKind (pushed known v) k w
-    same kinds.Int (vars.Number e) is = tt
-    same kinds.Ints (vars.Reference r) is = is
-    same kinds.Bools (vars.Reference r) is = is
-    same kinds.NullRef (vars.Reference r) is = is
-    same _ _ is = elim is [ ]

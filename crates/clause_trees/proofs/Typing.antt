@@ -1,10 +1,11 @@
 -- What a tree's kind tells of the trees below it.
-use Rattle.std.proofs.Common.{◌≡◌, Bool, true, false, ◌&&◌, List, [], ◌∷◌, ◌++◌, Option, Some, None, if◌then◌else◌, refl}
+use Rattle.std.proofs.Common.{◌≡◌, Bool, true, false, ◌&&◌, List, [], ◌∷◌, ◌++◌, slice_get, Option, Some, None, if◌then◌else◌, refl, sym, ap, subst}
 use Rattle.std.specs.List.{AllByRecursion}
+use Rattle.std.specs.Option.{option_and_then}
 use Rattle.std.proofs.lemmas.Bool.{and_parts}
-use Rattle.std.proofs.lemmas.Option.{same_Some}
+use Rattle.std.proofs.lemmas.Option.{none-some, same_Some}
 use Rattle.cil_model.specs.Comparisons.{comparison_of}
-use Rattle.cil_model.specs.Kinds.{is_array_of, is_reference, is_tested, pushes_comparison}
+use Rattle.cil_model.specs.Kinds.{is_array_of, is_reference, is_tested, kind_of, pushes_comparison}
 use Rattle.cil_model.specs.Passes.{merged_kind}
 use Rattle.cil_model.specs.TermCodes.{preorder}
 use Rattle.cil_model.specs.Terms as terms
@@ -17,6 +18,7 @@ use Rattle.cil_model.specs.declared.instruction.UnOp.{UnOp}
 use Rattle.cil_model.specs.declared.place.Kind.{Kind}
 use Rattle.cil_model.specs.declared.place.Kind.TheVariants as kinds
 use Rattle.cil_model.specs.declared.place.Place.{Place}
+use Rattle.cil_model.specs.declared.place.Place.TheVariants as places
 use Rattle.clause_trees.specs.Meaning.{IsTyped, is_now}
 use Rattle.clause_trees.specs.declared.reader.Time.{Time}
 use Rattle.clause_trees.specs.declared.reader.Time.TheVariants.{Now, Entry}
@@ -35,19 +37,53 @@ int_is : (kind : Kind) → is_int kind ≡ true → kind ≡ kinds.Int
 int_is kinds.Int is = refl
 int_is _ is = absurd cc
 
+-- ---- kinds that merge
+
+-- What is so of one kind, and of null and arrays of either type, is so of kinds that merge.
+pub merged_cases : (P : Kind → Kind → Kind → Type 0) → ((kind : Kind) → P kind kind kind)
+    → P kinds.Ints kinds.NullRef kinds.Ints → P kinds.Bools kinds.NullRef kinds.Bools
+    → P kinds.NullRef kinds.Ints kinds.Ints → P kinds.NullRef kinds.Bools kinds.Bools
+    → (a b kind : Kind) → merged_kind a b ≡ Some kind → P a b kind
+merged_cases P one ints bools null_ints null_bools kinds.Int kinds.Int kind is =
+    subst (P kinds.Int kinds.Int) (same_Some kinds.Int kind is) (one kinds.Int)
+merged_cases P one ints bools null_ints null_bools kinds.Native kinds.Native kind is =
+    subst (P kinds.Native kinds.Native) (same_Some kinds.Native kind is) (one kinds.Native)
+merged_cases P one ints bools null_ints null_bools kinds.Ints kinds.Ints kind is =
+    subst (P kinds.Ints kinds.Ints) (same_Some kinds.Ints kind is) (one kinds.Ints)
+merged_cases P one ints bools null_ints null_bools kinds.Bools kinds.Bools kind is =
+    subst (P kinds.Bools kinds.Bools) (same_Some kinds.Bools kind is) (one kinds.Bools)
+merged_cases P one ints bools null_ints null_bools kinds.NullRef kinds.NullRef kind is =
+    subst (P kinds.NullRef kinds.NullRef) (same_Some kinds.NullRef kind is) (one kinds.NullRef)
+merged_cases P one ints bools null_ints null_bools kinds.Text kinds.Text kind is =
+    subst (P kinds.Text kinds.Text) (same_Some kinds.Text kind is) (one kinds.Text)
+merged_cases P one ints bools null_ints null_bools kinds.AddrInts kinds.AddrInts kind is =
+    subst (P kinds.AddrInts kinds.AddrInts) (same_Some kinds.AddrInts kind is) (one kinds.AddrInts)
+merged_cases P one ints bools null_ints null_bools kinds.AddrBools kinds.AddrBools kind is =
+    subst (P kinds.AddrBools kinds.AddrBools) (same_Some kinds.AddrBools kind is) (one kinds.AddrBools)
+merged_cases P one ints bools null_ints null_bools kinds.Ints kinds.NullRef kind is =
+    subst (P kinds.Ints kinds.NullRef) (same_Some kinds.Ints kind is) ints
+merged_cases P one ints bools null_ints null_bools kinds.Bools kinds.NullRef kind is =
+    subst (P kinds.Bools kinds.NullRef) (same_Some kinds.Bools kind is) bools
+merged_cases P one ints bools null_ints null_bools kinds.NullRef kinds.Ints kind is =
+    subst (P kinds.NullRef kinds.Ints) (same_Some kinds.Ints kind is) null_ints
+merged_cases P one ints bools null_ints null_bools kinds.NullRef kinds.Bools kind is =
+    subst (P kinds.NullRef kinds.Bools) (same_Some kinds.Bools kind is) null_bools
+merged_cases P one ints bools null_ints null_bools _ _ kind is = absurd (none-some kind is)
+
+merged_itself : (kind : Kind) → merged_kind kind kind ≡ Some kind
+merged_itself kinds.Int = refl
+merged_itself kinds.Native = refl
+merged_itself kinds.Ints = refl
+merged_itself kinds.Bools = refl
+merged_itself kinds.NullRef = refl
+merged_itself kinds.Text = refl
+merged_itself kinds.AddrInts = refl
+merged_itself kinds.AddrBools = refl
+
 -- Branches may be exchanged.
 pub merged_swaps : (a b kind : Kind) → merged_kind a b ≡ Some kind → merged_kind b a ≡ Some kind
-merged_swaps kinds.Int kinds.Int kind is = is
-merged_swaps kinds.Ints kinds.Ints kind is = is
-merged_swaps kinds.Bools kinds.Bools kind is = is
-merged_swaps kinds.NullRef kinds.NullRef kind is = is
-merged_swaps kinds.Native kinds.Native kind is = is
-merged_swaps kinds.Text kinds.Text kind is = is
-merged_swaps kinds.Ints kinds.NullRef kind is = is
-merged_swaps kinds.Bools kinds.NullRef kind is = is
-merged_swaps kinds.NullRef kinds.Ints kind is = is
-merged_swaps kinds.NullRef kinds.Bools kind is = is
-merged_swaps _ _ kind is = absurd cc
+merged_swaps a b kind is =
+    merged_cases (λ a b kind. merged_kind b a ≡ Some kind) merged_itself refl refl refl refl a b kind is
 
 -- ---- constants
 
@@ -233,3 +269,50 @@ old_typed args result Entry a kind typed = absurd (none typed.kind_is)
   where
     none : None ≡ Some kind → ⊥
     none is = cc
+
+-- ---- the kinds that trees have
+
+-- Numbers and references. No tree is a length of the machine's, a text or an address.
+abbrev pub is_of_tree : Kind → Bool
+is_of_tree kinds.Int = true
+is_of_tree kinds.Ints = true
+is_of_tree kinds.Bools = true
+is_of_tree kinds.NullRef = true
+is_of_tree kinds.Native = false
+is_of_tree kinds.Text = false
+is_of_tree kinds.AddrInts = false
+is_of_tree kinds.AddrBools = false
+
+place_of_tree : (o : Option Place) (kind : Kind) → option_and_then kind_of o ≡ Some kind → is_of_tree kind ≡ true
+place_of_tree None kind is = absurd (none-some kind is)
+place_of_tree (Some places.Void) kind is = absurd (none-some kind is)
+place_of_tree (Some places.Bool) kind is = ap is_of_tree (sym (same_Some kinds.Int kind is))
+place_of_tree (Some places.Int) kind is = ap is_of_tree (sym (same_Some kinds.Int kind is))
+place_of_tree (Some places.Bools) kind is = ap is_of_tree (sym (same_Some kinds.Bools kind is))
+place_of_tree (Some places.Ints) kind is = ap is_of_tree (sym (same_Some kinds.Ints kind is))
+
+merged_of_tree : (a b kind : Kind) → merged_kind a b ≡ Some kind → is_of_tree a ≡ true → is_of_tree kind ≡ true
+merged_of_tree a b kind is =
+    merged_cases (λ a b kind. is_of_tree a ≡ true → is_of_tree kind ≡ true) (λ k so. so) (λ so. so) (λ so. so)
+    (λ so. refl) (λ so. refl) a b kind is
+
+pub tree_kind : (args : List Place) (result : Place) (t : Term) (time : Time) (kind : Kind)
+    → IsTyped args result time t kind → is_of_tree kind ≡ true
+tree_kind args result (terms.Const n) time kind typed = ap is_of_tree (sym (same_Some kinds.Int kind typed.kind_is))
+tree_kind args result (terms.Arg n) time kind typed = place_of_tree (slice_get args n) kind typed.kind_is
+tree_kind args result terms.Null time kind typed = ap is_of_tree (sym (same_Some kinds.NullRef kind typed.kind_is))
+tree_kind args result terms.Result Now kind typed = place_of_tree (Some result) kind typed.kind_is
+tree_kind args result terms.Result Entry kind typed = absurd (none-some kind typed.kind_is)
+tree_kind args result (terms.Len a) time kind typed =
+    ap is_of_tree (sym (length_typed args result time a kind typed).int)
+tree_kind args result (terms.Elem place a b) time kind typed =
+    ap is_of_tree (sym (element_typed args result time place a b kind typed).int)
+tree_kind args result (terms.Bin op a b) time kind typed =
+    ap is_of_tree (sym (operator_typed args result time op a b kind typed).int)
+tree_kind args result (terms.Un op a) time kind typed =
+    ap is_of_tree (sym (unary_typed args result time op a kind typed).int)
+tree_kind args result (terms.Old a) time kind typed =
+    tree_kind args result a Entry kind (old_typed args result time a kind typed).1
+tree_kind args result (terms.Cond c a b) time kind typed =
+    let below = branches_typed args result time c a b kind typed in
+    merged_of_tree below.left below.right kind below.merged (tree_kind args result a time below.left below.first)

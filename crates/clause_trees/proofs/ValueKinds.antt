@@ -27,12 +27,12 @@ use Rattle.cil_model.specs.declared.place.Kind.TheVariants as kinds
 use Rattle.cil_model.specs.declared.place.Place.{Place}
 use Rattle.cil_model.specs.declared.place.Place.TheVariants as places
 use Rattle.cil_model.proofs.ArithmeticFits.{operated_fits, operated_one_fits, truth_fits}
-use Rattle.cil_model.proofs.HeapsKept.{array_of_heap, has_array-kept, keeps_itself}
+use Rattle.cil_model.proofs.HeapsKept.{HasItemOf-kept, array_of_heap, has_array-kept, keeps_itself}
 use Rattle.clause_trees.specs.Meaning.{IsTyped, Reads, reading_at}
 use Rattle.clause_trees.specs.declared.reader.Time.{Time}
 use Rattle.clause_trees.specs.declared.reader.Time.TheVariants.{Now, Entry}
 use Rattle.clause_trees.specs.declared.reader.TreeEnv.{TreeEnv}
-use Rattle.clause_trees.proofs.Typing.{branches_typed, element_typed, length_typed, merged_swaps, old_typed, operator_typed, unary_typed}
+use Rattle.clause_trees.proofs.Typing.{branches_typed, element_typed, length_typed, merged_cases, merged_swaps, old_typed, operator_typed, unary_typed}
 
 -- ---- values of kinds
 
@@ -46,6 +46,8 @@ kind_kept old new kinds.Bools values.Null kept fits = tt
 kind_kept old new kinds.Bools (values.Array i) kept fits = has_array-kept old new places.Bools i kept fits
 kind_kept old new kinds.NullRef values.Null kept fits = tt
 kind_kept old new kinds.Text values.Text kept fits = tt
+kind_kept old new kinds.AddrInts (values.Addr a n) kept fits = HasItemOf-kept old new places.Ints a n kept fits
+kind_kept old new kinds.AddrBools (values.Addr a n) kept fits = HasItemOf-kept old new places.Bools a n kept fits
 kind_kept old new _ _ kept fits = absurd fits
 
 array_there : (heap : Heap) (place : Place) (i : ℕ) → has_array heap place i ≡ true → i < length heap
@@ -64,6 +66,8 @@ kind_is_value heap kinds.Bools values.Null fits = tt
 kind_is_value heap kinds.Bools (values.Array i) fits = array_there heap places.Bools i fits
 kind_is_value heap kinds.NullRef values.Null fits = tt
 kind_is_value heap kinds.Text values.Text fits = tt
+kind_is_value heap kinds.AddrInts (values.Addr a n) fits = fits.1
+kind_is_value heap kinds.AddrBools (values.Addr a n) fits = fits.1
 kind_is_value heap _ _ fits = absurd fits
 
 byte_fits : (n : ℤ) → IsByte n → FitsSigned w32 n
@@ -89,26 +93,17 @@ place_of_kind heap _ kind _ fits is = absurd fits
 -- A value of either branch is one of both.
 pub merged_left : (heap : Heap) (a b kind : Kind) (v : Value) → merged_kind a b ≡ Some kind → FitsKind heap a v
     → FitsKind heap kind v
-merged_left heap kinds.Int kinds.Int kind v is fits = subst (λ k. FitsKind heap k v) (same_Some kinds.Int kind is) fits
-merged_left heap kinds.Native kinds.Native kind v is fits =
-    subst (λ k. FitsKind heap k v) (same_Some kinds.Native kind is) fits
-merged_left heap kinds.Ints kinds.Ints kind v is fits =
-    subst (λ k. FitsKind heap k v) (same_Some kinds.Ints kind is) fits
-merged_left heap kinds.Bools kinds.Bools kind v is fits =
-    subst (λ k. FitsKind heap k v) (same_Some kinds.Bools kind is) fits
-merged_left heap kinds.NullRef kinds.NullRef kind v is fits =
-    subst (λ k. FitsKind heap k v) (same_Some kinds.NullRef kind is) fits
-merged_left heap kinds.Text kinds.Text kind v is fits =
-    subst (λ k. FitsKind heap k v) (same_Some kinds.Text kind is) fits
-merged_left heap kinds.Ints kinds.NullRef kind v is fits =
-    subst (λ k. FitsKind heap k v) (same_Some kinds.Ints kind is) fits
-merged_left heap kinds.Bools kinds.NullRef kind v is fits =
-    subst (λ k. FitsKind heap k v) (same_Some kinds.Bools kind is) fits
-merged_left heap kinds.NullRef kinds.Ints kind values.Null is fits =
-    subst (λ k. FitsKind heap k values.Null) (same_Some kinds.Ints kind is) tt
-merged_left heap kinds.NullRef kinds.Bools kind values.Null is fits =
-    subst (λ k. FitsKind heap k values.Null) (same_Some kinds.Bools kind is) tt
-merged_left heap _ _ kind v is fits = absurd (first_of (cc, search))
+merged_left heap a b kind v is =
+    merged_cases (λ a b kind. FitsKind heap a v → FitsKind heap kind v) (λ k fits. fits) (λ fits. fits) (λ fits. fits)
+    (null_ints v) (null_bools v) a b kind is
+  where
+    null_ints : (v : Value) → FitsKind heap kinds.NullRef v → FitsKind heap kinds.Ints v
+    null_ints values.Null fits = tt
+    null_ints _ fits = absurd fits
+
+    null_bools : (v : Value) → FitsKind heap kinds.NullRef v → FitsKind heap kinds.Bools v
+    null_bools values.Null fits = tt
+    null_bools _ fits = absurd fits
 
 -- ---- parts of values
 
@@ -150,10 +145,7 @@ length_fits heap (values.Array a) is is_heap gives = by (slice_get heap a) refl 
         let short : length cell.items < 2147483648 = array.1 in
         subst (FitsKind heap kinds.Int) (same_Some (values.Int (pos (length cell.items))) is gives)
         (omega (arith, ints, short))
-length_fits heap (values.Int n) is is_heap gives = absurd (none-some is gives)
-length_fits heap (values.Native n) is is_heap gives = absurd (none-some is gives)
-length_fits heap values.Null is is_heap gives = absurd (none-some is gives)
-length_fits heap values.Text is is_heap gives = absurd (none-some is gives)
+length_fits heap _ is is_heap gives = absurd (none-some is gives)
 
 -- An item that is taken, with its index and its array.
 pub record IsItem (heap : Heap) (place : Place) (x y is : Value) : Type 0 where
@@ -210,14 +202,7 @@ item_tells heap place a n is gives = on_cell (slice_get heap a) refl gives
 pub element_tells : (heap : Heap) (place : Place) (x y is : Value) → element_value heap place x y ≡ Some is
     → IsItem heap place x y is
 element_tells heap place (values.Array a) (values.Int n) is gives = item_tells heap place a n is gives
-element_tells heap place (values.Array a) (values.Native n) is gives = absurd (none-some is gives)
-element_tells heap place (values.Array a) values.Null is gives = absurd (none-some is gives)
-element_tells heap place (values.Array a) (values.Array i) is gives = absurd (none-some is gives)
-element_tells heap place (values.Array a) values.Text is gives = absurd (none-some is gives)
-element_tells heap place (values.Int n) y is gives = absurd (none-some is gives)
-element_tells heap place (values.Native n) y is gives = absurd (none-some is gives)
-element_tells heap place values.Null y is gives = absurd (none-some is gives)
-element_tells heap place values.Text y is gives = absurd (none-some is gives)
+element_tells heap place _ _ is gives = absurd (none-some is gives)
 
 pub found_item : (P : ℤ → Type 0) (items : List ℤ) (k : ℕ) (n : ℤ) → AllByRecursion P items → slice_get items k ≡ Some n
     → P n
@@ -256,7 +241,7 @@ arithmetic_fits : (heap : Heap) (op : BinOp) (x y is : Value) → IsValue heap x
     → FitsKind heap kinds.Int is
 arithmetic_fits heap op (values.Int a) (values.Int b) is one two gives =
     faultless_fits heap (operated op a b) is (operated_fits op a b one two) gives
-arithmetic_fits heap op _ _ is one two gives = absurd (first_of (cc, search))
+arithmetic_fits heap op _ _ is one two gives = absurd (none-some is gives)
 
 binary_fits : (heap : Heap) (op : BinOp) (o : Option CmpOp) (x y is : Value) → IsValue heap x → IsValue heap y
     → binary_by op o x y ≡ Some is

@@ -100,9 +100,12 @@ variable i known = with_one given (option_and_then (slice_get known.variables) i
 abbrev pub push_length : ℕ → State → State
 push_length r state = option_and_then (λ known. Some (pushed known (vars.Number (length_at known r)))) state
 
+-- Nothing is read of a text or of an address: clauses are pure, so no tree has an address.
 abbrev pub length_value : Var → Step
 length_value (vars.Reference r) known = owing (operations.Length r) (push_length r) known
-length_value _ known = refused
+length_value (vars.Number e) known = refused
+length_value vars.Text known = refused
+length_value (vars.Address r e) known = refused
 
 -- The items at a method's entry are not known.
 abbrev pub push_item : Time → Place → ℕ → Expr → State → State
@@ -138,16 +141,20 @@ minuend unary.Not = negsuc 0
 
 abbrev pub unary_value : UnOp → Var → Step
 unary_value op (vars.Number e) known = arithmetic operators.Sub (constant (minuend op)) e known
-unary_value op _ known = refused
+unary_value op (vars.Reference r) known = refused
+unary_value op vars.Text known = refused
+unary_value op (vars.Address r e) known = refused
 
 -- ---- conditions
 
--- A value is true: a number other than 0, or a reference other than null. Or it is false.
+-- A value is true: a number other than 0, or a reference other than null. Or it is false. A text and an address are not
+-- tested.
 abbrev pub true_known : Bool → Var → StateFacts → State
 true_known holds (vars.Number e) known =
     assumed comparisons.NeUn (vars.Number e) (vars.Number (constant (pos 0))) holds known
 true_known holds (vars.Reference r) known = assumed comparisons.NeUn (vars.Reference r) (vars.Reference 0) holds known
 true_known holds vars.Text known = Some known
+true_known holds (vars.Address r e) known = Some known
 
 -- What is seen of a branch's value behind the condition: the numbers that it may be; that it is reference 0; or the
 -- type of a reference.
@@ -159,6 +166,7 @@ abbrev pub seen_of : StateFacts → Var → Option Seen
 seen_of known (vars.Number e) = Some (seen.Number (range_of known.facts e))
 seen_of known (vars.Reference r) = Some (seen_reference r known)
 seen_of known vars.Text = None
+seen_of known (vars.Address r e) = None
 
 abbrev pub seen_on_top : StateFacts → Option Seen
 seen_on_top known = option_and_then (seen_of known) (from_top 0 known)

@@ -22,12 +22,15 @@ abbrev pub IsOfPlace : Place → Option Place → Type 0
 IsOfPlace place None = Unit {0}
 IsOfPlace place (Some other) = other ≡ place
 
--- What a variable has is a number, or a reference of this type. Reference 0 is one of each type.
+-- What a variable has is a number, or a reference of this type, or an address in an array of it. Reference 0 is one of
+-- each type, but no address is in it.
 abbrev pub IsOfKind : StateFacts → Kind → Var → Type 0
 IsOfKind known kinds.Int (vars.Number e) = Unit {0}
 IsOfKind known kinds.Ints (vars.Reference r) = IsOfPlace places.Ints (place_in known r)
 IsOfKind known kinds.Bools (vars.Reference r) = IsOfPlace places.Bools (place_in known r)
 IsOfKind known kinds.NullRef (vars.Reference r) = r ≡ 0
+IsOfKind known kinds.AddrInts (vars.Address r e) = place_in known r ≡ Some places.Ints
+IsOfKind known kinds.AddrBools (vars.Address r e) = place_in known r ≡ Some places.Bools
 IsOfKind known _ _ = ⊥
 
 -- The variable is there, and of the kind.
@@ -66,11 +69,12 @@ IsPushedIn before kind (Some after) = IsPushed before kind after
 
 -- ---- the same forms, in other names
 
--- Both have a number, or a text, or references of one type, or reference 0.
+-- Both have a number, or a text, or references of one type, or reference 0, or addresses of such references.
 abbrev pub IsSameForm : (a b : StateFacts) → Var → Var → Type 0
 IsSameForm a b (vars.Number e) (vars.Number f) = Unit {0}
 IsSameForm a b (vars.Reference r) (vars.Reference q) = place_in b q ≡ place_in a r
 IsSameForm a b vars.Text vars.Text = Unit {0}
+IsSameForm a b (vars.Address r e) (vars.Address q f) = place_in b q ≡ place_in a r
 IsSameForm a b _ _ = ⊥
 
 abbrev pub AreSameForms : (a b : StateFacts) → List Var → List Var → Type 0

@@ -47,7 +47,7 @@ fn is_top_known(state: &AbsState, holds: bool) -> bool
 {
     match state.from_top(0) {
         Some(Var::Number(e)) => is_number_known(state, e, holds),
-        _ => !state.reached(),
+        Some(Var::Reference(_) | Var::Text | Var::Address(..)) | None => !state.reached(),
     }
 }
 

@@ -33,7 +33,7 @@ pub fn assume_true(state: &mut AbsState, value: Var, holds: bool) -> Result<(), 
     let zero = match value {
         Var::Number(_) => Var::Number(constant(0)),
         Var::Reference(_) => Var::Reference(0),
-        Var::Text => return Ok(()),
+        Var::Text | Var::Address(..) => return Ok(()),
     };
     state.assume(CmpOp::NeUn, value, zero, holds)
 }
@@ -58,7 +58,7 @@ fn seen_of(state: &AbsState, value: Var) -> Option<Seen>
         Var::Number(e) => Some(Seen::Number(span_of(state, e))),
         Var::Reference(0) => Some(Seen::Null),
         Var::Reference(r) => Some(Seen::Array(state.place(r))),
-        Var::Text => None,
+        Var::Text | Var::Address(..) => None,
     }
 }
 

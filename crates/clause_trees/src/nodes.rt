@@ -84,7 +84,7 @@ pub(crate) fn length(state: &mut AbsState) -> Result<bool, NoMemory>
 {
     match take(state)? {
         Some(Var::Reference(r)) => length_of(state, r),
-        _ => Ok(refused(state)),
+        Some(Var::Number(_) | Var::Text | Var::Address(..)) | None => Ok(refused(state)),
     }
 }
 
@@ -273,6 +273,6 @@ pub(crate) fn unary(state: &mut AbsState, op: UnOp) -> Result<bool, NoMemory>
 {
     match take(state)? {
         Some(Var::Number(e)) => arithmetic(state, BinOp::Sub, minuend(op), e),
-        _ => Ok(refused(state)),
+        Some(Var::Reference(_) | Var::Text | Var::Address(..)) | None => Ok(refused(state)),
     }
 }

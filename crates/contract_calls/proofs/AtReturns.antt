@@ -11,7 +11,6 @@ use Rattle.cil_model.specs.Limits.{MAX_VARIABLES}
 use Rattle.cil_model.specs.Values.{FitsPlace, Heap, IsValue, put, with_first}
 use Rattle.cil_model.specs.declared.clause.Clause.{Clause}
 use Rattle.cil_model.specs.declared.machine.Value.{Value}
-use Rattle.cil_model.specs.declared.machine.Value.TheVariants as values
 use Rattle.cil_model.specs.declared.place.Place.{Place}
 use Rattle.cil_model.specs.declared.place.Place.TheVariants as places
 use Rattle.cil_model.specs.declared.unit.Unit.{Unit as MethodUnit}
@@ -41,11 +40,7 @@ use Rattle.contract_calls.proofs.PassedArguments.{args_keep, args_same, as_long,
 -- ---- results
 
 void_put : (heap : Heap) (v : Value) → put heap places.Void v ≡ None
-void_put heap (values.Int n) = refl
-void_put heap (values.Native n) = refl
-void_put heap values.Null = refl
-void_put heap (values.Array i) = refl
-void_put heap values.Text = refl
+void_put heap _ = refl
 
 -- There is no result: it is void, and the stack is empty.
 record IsNothing (place : Place) (stack : List Value) (result : Option Value) : Type 0 where

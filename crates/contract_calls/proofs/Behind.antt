@@ -22,11 +22,10 @@ use Rattle.cil_model.specs.declared.unit.CalleeInfo.{CalleeInfo}
 use Rattle.cil_model.proofs.HeapsKept.{AreValues-kept, keeps_on, value_of_place}
 use Rattle.cil_model.proofs.Lists.{all_append, all_split}
 use Rattle.clause_trees.proofs.PushedMoves.{unknown_pushed}
-use Rattle.clause_trees.proofs.Stays.{pushed_readable}
+use Rattle.clause_trees.proofs.Stays.{form_alike, kind_by_form, pushed_readable}
 use Rattle.clause_trees.specs.Meaning.{Reads, ReadsResult}
-use Rattle.clause_trees.specs.VariableKinds.{IsOfKind, IsOfPlace, IsOneOfKind, IsPushed, IsPushedIn, IsReadable, place_in}
+use Rattle.clause_trees.specs.VariableKinds.{IsOfKind, IsOneOfKind, IsPushed, IsPushedIn, IsReadable, place_in}
 use Rattle.frame_names.specs.declared.var.Var.{Var}
-use Rattle.frame_names.specs.declared.var.Var.TheVariants as vars
 use Rattle.machine_points.specs.MachineValues.{HasMachineValues}
 use Rattle.machine_points.specs.declared.point.Point.{Point}
 use Rattle.merged_states.specs.Following.{HoldsOver}
@@ -56,11 +55,7 @@ use Rattle.contract_calls.proofs.PassedArguments.{at_of, base_of}
 pub kind_alike : (a b : StateFacts) → ((r : ℕ) → place_in b r ≡ place_in a r) → (kind : Kind) (v : Var)
     → IsOfKind a kind v
     → IsOfKind b kind v
-kind_alike a b same kinds.Int (vars.Number e) is = tt
-kind_alike a b same kinds.Ints (vars.Reference r) is = subst (IsOfPlace places.Ints) (sym (same r)) is
-kind_alike a b same kinds.Bools (vars.Reference r) is = subst (IsOfPlace places.Bools) (sym (same r)) is
-kind_alike a b same kinds.NullRef (vars.Reference r) is = is
-kind_alike a b same _ _ is = elim is [ ]
+kind_alike a b same kind v is = kind_by_form a b kind v (form_alike a b v same) is
 
 -- What is apart does not matter to what is pushed.
 apart_pushed : (one two : List Pair) (place : Place) (kind : Kind) (known : StateFacts) (o : Option Made)

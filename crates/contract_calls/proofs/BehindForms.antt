@@ -1,6 +1,5 @@
 -- What becomes of the forms of variables at a call.
 use Rattle.std.proofs.Common.{◌≡◌, ℕ, zero, suc, ◌+◌, ◌-◌, ◌≤◌, List, [], ◌∷◌, ◌++◌, length, take, drop, slice_get, Option, Some, None, refl, ap, subst, sym, ◌∙◌, append-nil, arith}
-use Rattle.std.specs.List.{AllByRecursion}
 use Rattle.std.specs.Option.{ForSome, option_and_then, option_map}
 use Rattle.std.proofs.lemmas.List.{drop_all, length-append, take-append-le}
 use Rattle.std.proofs.lemmas.Option.{none-some, same_Some}
@@ -17,9 +16,9 @@ use Rattle.cil_model.specs.declared.unit.Unit.{Unit as MethodUnit}
 use Rattle.cil_model.proofs.Lists.{all_append, all_drop, all_take}
 use Rattle.clause_trees.proofs.AssumedKept.{itself_same}
 use Rattle.clause_trees.proofs.SameForms.{all_on}
+use Rattle.clause_trees.proofs.Stays.{forms_there}
 use Rattle.clause_trees.specs.VariableKinds.{AreSameForms, HasSameFormsIn, IsGrown, IsOfKind, IsOneOfKind, IsPushedIn, IsReadable}
 use Rattle.frame_names.specs.declared.var.Var.{Var}
-use Rattle.frame_names.specs.declared.var.Var.TheVariants as vars
 use Rattle.state_facts.proofs.Growing.{grown, same_facts}
 use Rattle.state_facts.specs.Calls.{passed, with_call, with_result, without_items}
 use Rattle.state_facts.proofs.MoveForms.{without_form}
@@ -35,14 +34,6 @@ use Rattle.contract_calls.proofs.MethodClauses.{callee_clauses}
 use Rattle.contract_calls.proofs.PassedArguments.{all_same}
 
 -- ---- variables that stay
-
-grown_forms : (known after : StateFacts) (vs : List Var) → IsGrown known after
-    → AllByRecursion (IsVar (length known.facts.ranges) (length known.references)) vs → AreSameForms known after vs vs
-grown_forms known after [] grown all = tt
-grown_forms known after (vars.Number e ∷ vs) grown all = (tt, grown_forms known after vs grown all.1)
-grown_forms known after (vars.Reference r ∷ vs) grown all =
-    (grown.places r all.0, grown_forms known after vs grown all.1)
-grown_forms known after (vars.Text ∷ vs) grown all = (tt, grown_forms known after vs grown all.1)
 
 pub same_take : (a b : StateFacts) (n : ℕ) (vs ws : List Var) → AreSameForms a b vs ws
     → AreSameForms a b (take n vs) (take n ws)
@@ -133,7 +124,7 @@ given_on callee known between (Some after) form over readable same =
           (subst (AreSameForms known between (take first known.variables))
           (sym (ap (take first) over.variables_are
           ∙ take-append-le first known.variables over.top (omega arith)))
-          (grown_forms known between (take first known.variables) over.grown
+          (forms_there known between (take first known.variables) over.grown
           (all_take (IsVar (length known.facts.ranges) (length known.references)) first known.variables
           form.variables)))
           (same_take between after first between.variables after.variables same.variables);

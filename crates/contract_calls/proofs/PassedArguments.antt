@@ -15,8 +15,8 @@ use Rattle.cil_model.proofs.Lists.{all_append, all_drop, all_reverse}
 use Rattle.cil_model.proofs.StepsKeep.{args_fit}
 use Rattle.clause_trees.proofs.AssumedKept.{itself_same}
 use Rattle.clause_trees.proofs.SameForms.{same_forms_on}
-use Rattle.clause_trees.proofs.Stays.{found_var}
-use Rattle.clause_trees.specs.VariableKinds.{AreSameForms, HasSameFormsIn, IsSameForm, place_in}
+use Rattle.clause_trees.proofs.Stays.{form_alike, found_var}
+use Rattle.clause_trees.specs.VariableKinds.{AreSameForms, HasSameForms, HasSameFormsIn, IsSameForm, place_in}
 use Rattle.domain_api.specs.declared.expr.Expr.{Expr}
 use Rattle.frame_names.specs.declared.var.Var.{Var}
 use Rattle.frame_names.specs.declared.var.Var.TheVariants as vars
@@ -41,9 +41,7 @@ use Rattle.contract_calls.specs.Meaning.{KeepsArgs, passing}
 -- The same variables have the same forms, where references keep their types.
 pub all_same : (a b : StateFacts) → ((r : ℕ) → place_in b r ≡ place_in a r) → (vs : List Var) → AreSameForms a b vs vs
 all_same a b places [] = tt
-all_same a b places (vars.Number e ∷ vs) = (tt, all_same a b places vs)
-all_same a b places (vars.Reference r ∷ vs) = (places r, all_same a b places vs)
-all_same a b places (vars.Text ∷ vs) = (tt, all_same a b places vs)
+all_same a b places (v ∷ vs) = (form_alike a b v places, all_same a b places vs)
 
 set_same : (a b : StateFacts) (vs : List Var) (i : ℕ) (v w : Var) → ((r : ℕ) → place_in b r ≡ place_in a r)
     → slice_get vs i ≡ Some v → IsSameForm a b v w → AreSameForms a b vs (set vs i w)
@@ -51,7 +49,7 @@ set_same a b [] i v w places at same = tt
 set_same a b (x ∷ vs) zero v w places at same =
     (subst (λ u. IsSameForm a b u w) (sym (same_Some x v at)) same, all_same a b places vs)
 set_same a b (x ∷ vs) (suc i) v w places at same =
-    ((all_same a b places (x ∷ [])).0, set_same a b vs i v w places at same)
+    (form_alike a b x places, set_same a b vs i v w places at same)
 
 made_same : (known : StateFacts) (i : ℕ) (e : Expr) (o : Option Made)
     → slice_get known.variables i ≡ Some (vars.Number e)
@@ -63,20 +61,24 @@ made_same known i e (Some made) at formed = record {
       (λ r. refl) at tt;
 }
 
+-- A variable that is put as it is.
+itself_put : (i : ℕ) (v : Var) (known : StateFacts) → slice_get known.variables i ≡ Some v
+    → HasForm (record known { variables = set known.variables i v })
+    → HasSameForms known (record known { variables = set known.variables i v })
+itself_put i v known at formed =
+    let after = record known { variables = set known.variables i v } in
+    record {
+      form = formed;
+      variables = set_same known after known.variables i v v (λ r. refl) at (form_alike known after v (λ r. refl));
+    }
+
 var_put : (i : ℕ) (v : Var) (place : Place) (known : StateFacts) → slice_get known.variables i ≡ Some v
     → Formed (with_put i v place known) → HasSameFormsIn known (with_put i v place known)
 unfolding with_put with_placed
 var_put i (vars.Number e) place known at formed = made_same known i e (placed known.facts e place) at formed
-var_put i (vars.Reference r) place known at formed = record {
-  form = formed;
-  variables = set_same known (record known { variables = set known.variables i (vars.Reference r) }) known.variables i
-      (vars.Reference r) (vars.Reference r) (λ q. refl) at refl;
-}
-var_put i vars.Text place known at formed = record {
-  form = formed;
-  variables = set_same known (record known { variables = set known.variables i vars.Text }) known.variables i vars.Text
-      vars.Text (λ q. refl) at tt;
-}
+var_put i (vars.Reference r) place known at formed = itself_put i (vars.Reference r) known at formed
+var_put i vars.Text place known at formed = itself_put i vars.Text known at formed
+var_put i (vars.Address r e) place known at formed = itself_put i (vars.Address r e) known at formed
 
 abbrev put_var : ℕ → Place → State → Option Var → State
 put_var i place state o = option_map_or (λ v. states.put i v place state) o state

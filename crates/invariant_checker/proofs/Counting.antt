@@ -66,6 +66,7 @@ op_few unit (ops.NewArray number) few = omega arith
 op_few unit ops.Length few = omega arith
 op_few unit (ops.LoadElem place) few = omega arith
 op_few unit (ops.StoreElem place) few = omega arith
+op_few unit (ops.LoadAddr number) few = omega arith
 op_few unit _ few = omega (arith, few)
 
 at_few : (unit : MethodUnit) (i : Instr) → IsWellFormed unit → length (obligations_at unit i) ≤ MAX_CLAUSES

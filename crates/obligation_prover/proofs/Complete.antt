@@ -1,6 +1,6 @@
 -- Each fault in which an instruction may end is one of its operation, or that a clause is not true.
 use Rattle.std.proofs.Common.{◌≡◌, ℕ, ℤ, pos, negsuc, true, false, ◌&&◌, int_le, int_lt, int_eq, Option, Some, None, List, [], ◌∷◌, Ok, Err, refl, sym, ap, subst, ◌∙◌, inl, inr, ⊎_elim, slice_get}
-use Rattle.std.specs.Prelude.{◌^◌, ◌/◌, ◌*ℤ◌, ◌+ℤ◌, ◌-ℤ◌, Result, length}
+use Rattle.std.specs.Prelude.{◌^◌, ◌/◌, ◌*ℤ◌, ◌+ℤ◌, ◌-ℤ◌, Result, length, unsigned_abs}
 use Rattle.std.specs.Int.{int_shr}
 use Rattle.std.proofs.lemmas.Bool.{cond_both, true≢false}
 use Rattle.cc_base.specs.Wrap.{wrap32}
@@ -8,7 +8,7 @@ use Rattle.cil_model.specs.Arithmetic.{LEAST, GREATEST, signed, unsigned, exact,
 use Rattle.cil_model.specs.Calls.{FreeCall, FreelyCalled, Returned, ensures_fault}
 use Rattle.cil_model.specs.Clauses.{false_requires}
 use Rattle.cil_model.specs.Comparisons.{comparison_of, number_of}
-use Rattle.cil_model.specs.Effects.{Effect, GoesOn, Faults, Assumes, FindsNoRoom, HasEffect, arithmetic, array_length, at_index, below_message, binary, comparison, contract_call, effects, effects_of, gives, goes_on, item_value, loads, makes_number, new_array, of_place, pushes, stores, tests_condition}
+use Rattle.cil_model.specs.Effects.{Effect, GoesOn, Faults, Assumes, FindsNoRoom, HasEffect, arithmetic, array_length, at_index, below_message, binary, comparison, contract_call, effects, effects_of, gives, goes_on, item_value, loads, makes_number, new_array, of_place, pushes, stores, takes_address, tests_condition}
 use Rattle.cil_model.specs.Runs.{CallsBy, EffectRow, Row, config_after}
 use Rattle.cil_model.specs.UnitCalls.{array_place, unit_call}
 use Rattle.cil_model.specs.Values.{Heap, same_place}
@@ -155,6 +155,15 @@ module _ (i : Instr) (f : Frame) (heap : Heap) where
         place_among place (slice_get heap a) n _ (λ cell there. goes_none _ rest there) has
     store_among place _ has = absurd has
 
+    address_among : (place : Option Place) (stack : List Value)
+        → HasEffect (takes_address place i f heap stack) (Faults kind) → IsAmong element_faults kind
+    address_among (Some place) (values.Int n ∷ values.Null ∷ rest) has = inl (same_kind faults.NullUse has)
+    address_among (Some place) (values.Int n ∷ values.Array a ∷ rest) has =
+        place_among place (slice_get heap a) n (λ cell. goes_on i f heap (values.Addr a (unsigned_abs n) ∷ rest))
+        (λ cell there. goes_none heap (values.Addr a (unsigned_abs n) ∷ rest) there) has
+    address_among (Some place) _ has = absurd has
+    address_among None stack has = absurd has
+
     makes_among : (place : Option Place) (n : Option ℤ) (rest : List Value) → HasEffect (makes_number place n i f heap rest) (Faults kind)
         → IsAmong (faults.ArraySize ∷ []) kind
     makes_among (Some place) (Some n) rest has =
@@ -184,6 +193,7 @@ module _ (i : Instr) (f : Frame) (heap : Heap) where
   op_among ops.Length unit kind has = length_among kind f.stack has
   op_among (ops.LoadElem place) unit kind has = load_among kind place f.stack has
   op_among (ops.StoreElem place) unit kind has = store_among kind place f.stack has
+  op_among (ops.LoadAddr number) unit kind has = address_among kind (array_place number) f.stack has
   op_among ops.Return unit kind has = absurd has
   op_among ops.Nop unit kind has = quiet_op ops.Nop unit kind (tt, tt) has
   op_among (ops.LoadArg n) unit kind has = quiet_op (ops.LoadArg n) unit kind (quiet.quiet_pushes i f heap f.stack (slice_get f.args n)) has
@@ -200,6 +210,10 @@ module _ (i : Instr) (f : Frame) (heap : Heap) where
   op_among ops.Not unit kind has = quiet_op ops.Not unit kind (quiet.quiet_changes i f heap unary.Not f.stack) has
   op_among ops.ConvI4 unit kind has = quiet_op ops.ConvI4 unit kind (quiet.quiet_converts i f heap f.stack) has
   op_among (ops.Text token) unit kind has = quiet_op (ops.Text token) unit kind (tt, tt) has
+  op_among (ops.LoadInd place) unit kind has =
+      quiet_op (ops.LoadInd place) unit kind (quiet.quiet_loads_through i f heap place f.stack) has
+  op_among (ops.StoreInd place) unit kind has =
+      quiet_op (ops.StoreInd place) unit kind (quiet.quiet_stores_through i f heap place f.stack) has
 
 pub no_other : (unit : MethodUnit) (op : Op) → EndsInNoOther unit op (faults_of unit op)
 no_other unit op = λ i f heap kind same has.

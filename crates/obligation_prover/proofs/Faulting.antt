@@ -1,13 +1,14 @@
 -- An instruction of the machine goes on where each of its conditions is met, and ends in the fault of the first that is
--- not.
+-- not. Where it goes through an address, the item is there.
 use Rattle.std.proofs.Common.{◌≡◌, ℕ, ℤ, true, false, Option, Some, None, List, [], ◌∷◌, ◌++◌, refl, sym, ap, subst, ◌∙◌, inl, slice_get}
 use Rattle.std.specs.Prelude.{reverse}
+use Rattle.std.specs.List.{AllByRecursion}
 use Rattle.std.specs.Option.{option_map_or}
 use Rattle.std.proofs.lemmas.Bool.{cond_both}
 use Rattle.cil_model.specs.Comparisons.{comparison_of, number_of, reference_of}
-use Rattle.cil_model.specs.Effects.{Effect, Faults, HasEffect, arithmetic, array_length, below_message, binary, comparison, contract_call, effects, effects_of, loads, makes_number, new_array, of_place, stores, tests_condition}
+use Rattle.cil_model.specs.Effects.{Effect, Faults, HasEffect, addresses, arithmetic, array_length, below_message, binary, comparison, contract_call, effects, effects_of, loads, loads_through, makes_number, new_array, of_place, stores, stores_through, takes_address, tests_condition}
 use Rattle.cil_model.specs.UnitCalls.{array_place, unit_call}
-use Rattle.cil_model.specs.Values.{Heap, has_array, same_place}
+use Rattle.cil_model.specs.Values.{Heap, IsValue, has_array, same_place}
 use Rattle.cil_model.specs.declared.instruction.BinOp.{BinOp}
 use Rattle.cil_model.specs.declared.instruction.BinOp.TheVariants as operators
 use Rattle.cil_model.specs.declared.instruction.CmpOp.{CmpOp}
@@ -28,15 +29,17 @@ use Rattle.cil_model.specs.declared.unit_numbers.UnitCall.TheVariants as calls
 use Rattle.domain_api.specs.declared.expr.Expr.{Expr}
 use Rattle.frame_names.specs.declared.var.Var.{Var}
 use Rattle.frame_names.specs.declared.var.Var.TheVariants as vars
-use Rattle.state_facts.specs.Holds.{FitsArray, HaveValues, variables_of}
+use Rattle.state_facts.specs.Holds.{FitsArray, HasValue, HaveValues, address_of, variables_of}
 use Rattle.state_facts.specs.StateFacts.{StateFacts}
 use Rattle.symbolic_values.specs.Worth.{worth}
-use Rattle.state_obligations.proofs.FaultLaws.{assert_effects, length_effects, load_effects, new_array_effects, operator_effects, store_effects}
+use Rattle.state_obligations.proofs.AddressLaws.{address_is_met}
+use Rattle.state_obligations.proofs.FaultLaws.{address_effects, assert_effects, length_effects, load_effects, new_array_effects, operator_effects, store_effects}
 use Rattle.state_obligations.specs.Conditions.{conditions_of, operator_conditions}
 use Rattle.state_obligations.specs.Faults.{EffectsFaultWhereUnmet, HasNoFault}
+use Rattle.state_obligations.specs.Meaning.{AreMet}
 use Rattle.state_obligations.specs.declared.condition.Operation.{Operation}
 use Rattle.state_obligations.specs.declared.condition.Operation.TheVariants as operations
-use Rattle.obligation_prover.specs.Operations.{array_of, assertion_of, binary_of, call_operation, conditions_at, element_of, length_of, operation_of}
+use Rattle.obligation_prover.specs.Operations.{array_of, assertion_of, binary_of, call_operation, conditions_after, conditions_at, element_of, item_of, length_of, operation_of}
 use Rattle.obligation_prover.proofs.PointValues.{below_stack, have_reversed, stack_first}
 use Rattle.obligation_prover.proofs.Quiet as quiet
 
@@ -59,6 +62,15 @@ module _ (number : ℕ → ℤ) (array : ℕ → Option ℕ) where
     array_is : reference_of value ≡ Some (array r)
     have : HaveValues number array rest vs
 
+  -- It has the address.
+  record FirstAddress (ws : List Var) (a n : ℕ) (vs : List Value) : Type 0 where
+    r : ℕ
+    e : Expr
+    rest : List Var
+    is : ws ≡ vars.Address r e ∷ rest
+    address_is : HasValue number array (vars.Address r e) (values.Addr a n)
+    have : HaveValues number array rest vs
+
   -- It has something.
   record FirstAny (ws : List Var) (vs : List Value) : Type 0 where
     v : Var
@@ -78,7 +90,17 @@ module _ (number : ℕ → ℤ) (array : ℕ → Option ℕ) where
       no_reference (values.Native m) is has = cc
       no_reference values.Null is has = cc
       no_reference (values.Array a) is has = cc
+      no_reference (values.Addr a k) is has = cc
       no_reference values.Text is has = cc
+  first_number (vars.Address r e ∷ ws) value vs n is have = absurd (no_item value is have.0)
+    where
+      no_item : (value : Value) → number_of value ≡ Some n → address_of value ≡ Some (array r, worth number e) → ⊥
+      no_item (values.Int m) is has = cc
+      no_item (values.Native m) is has = cc
+      no_item values.Null is has = cc
+      no_item (values.Array a) is has = cc
+      no_item (values.Addr a k) is has = cc
+      no_item values.Text is has = cc
   first_number (vars.Text ∷ ws) value vs n is have = absurd (none (subst (λ (v : Value). number_of v ≡ Some n) have.0 is))
     where
       none : None ≡ Some n → ⊥
@@ -95,11 +117,30 @@ module _ (number : ℕ → ℤ) (array : ℕ → Option ℕ) where
       no_number (values.Native m) is has = cc
       no_number values.Null is has = cc
       no_number (values.Array b) is has = cc
+      no_number (values.Addr b k) is has = cc
       no_number values.Text is has = cc
+  first_reference (vars.Address r e ∷ ws) value vs a is have = absurd (no_item value is have.0)
+    where
+      no_item : (value : Value) → reference_of value ≡ Some a → address_of value ≡ Some (array r, worth number e) → ⊥
+      no_item (values.Int m) is has = cc
+      no_item (values.Native m) is has = cc
+      no_item values.Null is has = cc
+      no_item (values.Array b) is has = cc
+      no_item (values.Addr b k) is has = cc
+      no_item values.Text is has = cc
   first_reference (vars.Text ∷ ws) value vs a is have = absurd (none (subst (λ (v : Value). reference_of v ≡ Some a) have.0 is))
     where
       none : None ≡ Some a → ⊥
       none is = cc
+
+  first_address : (ws : List Var) (a n : ℕ) (vs : List Value) → HaveValues number array ws (values.Addr a n ∷ vs)
+      → FirstAddress ws a n vs
+  first_address [] a n vs have = absurd have
+  first_address (vars.Address r e ∷ ws) a n vs have =
+      record { r = r; e = e; rest = ws; is = refl; address_is = have.0; have = have.1 }
+  first_address (vars.Number e ∷ ws) a n vs have = absurd (let no_number : None ≡ Some (worth number e) = have.0 in cc)
+  first_address (vars.Reference r ∷ ws) a n vs have = absurd (let no_reference : None ≡ Some (array r) = have.0 in cc)
+  first_address (vars.Text ∷ ws) a n vs have = absurd (let no_text : values.Addr a n ≡ values.Text = have.0 in cc)
 
   first_any : (ws : List Var) (value : Value) (vs : List Value) → HaveValues number array ws (value ∷ vs) → FirstAny ws vs
   first_any [] value vs have = absurd have
@@ -159,23 +200,57 @@ module _ (number : ℕ → ℤ) (array : ℕ → Option ℕ) where
         same : (x y : Option ℕ) → Some x ≡ Some y → x ≡ y
         same x y e = cc
 
-    load_at : (place : Place) (ws : List Var) (n : ℤ) (value : Value) (rest below : List Value) (a : Option ℕ) → reference_of value ≡ Some a
-        → HaveValues number array ws (values.Int n ∷ value ∷ rest ++ below) → ((r : ℕ) → reference_of value ≡ Some (array r) → FitsArray heap place (array r))
-        → Faulting (element_of (slice_get ws 1) (slice_get ws 0)) (loads place i f heap (values.Int n ∷ value ∷ rest))
-    load_at place ws n value rest below a is have fits =
+    -- an instruction that takes an array below an index faults as an item does
+    abbrev OfItem : Place → (List Value → List Effect) → Value → List Value → Type 0
+    OfItem place does value rest =
+        (r : ℕ) (e : Expr) → reference_of value ≡ Some (array r) → FitsArray heap place (array r)
+        → Faulting (Some (operations.Element r e)) (does (values.Int (worth number e) ∷ value ∷ rest))
+
+    element_at : (place : Place) (does : List Value → List Effect) (ws : List Var) (n : ℤ) (value : Value)
+        (rest below : List Value) (a : Option ℕ) → OfItem place does value rest → reference_of value ≡ Some a
+        → HaveValues number array ws (values.Int n ∷ value ∷ rest ++ below)
+        → ((r : ℕ) → reference_of value ≡ Some (array r) → FitsArray heap place (array r))
+        → Faulting (element_of (slice_get ws 1) (slice_get ws 0)) (does (values.Int n ∷ value ∷ rest))
+    element_at place does ws n value rest below a faulting is have fits =
         let top = first_number ws (values.Int n) (value ∷ rest ++ below) n refl have in
         let next = first_reference top.rest value (rest ++ below) a is top.have in
-        subst (λ (vs : List Var). Faulting (element_of (slice_get vs 1) (slice_get vs 0)) (loads place i f heap (values.Int n ∷ value ∷ rest)))
+        subst (λ (vs : List Var). Faulting (element_of (slice_get vs 1) (slice_get vs 0))
+        (does (values.Int n ∷ value ∷ rest)))
         (sym (top.is ∙ ap (λ (vs : List Var). vars.Number top.e ∷ vs) next.is))
-        (subst (λ (m : ℤ). Faulting (Some (operations.Element next.r top.e)) (loads place i f heap (values.Int m ∷ value ∷ rest)))
-        (sym top.worth_is) (load_effects place next.r top.e i f heap number array value rest next.array_is (fits next.r next.array_is)))
+        (subst (λ (m : ℤ). Faulting (Some (operations.Element next.r top.e)) (does (values.Int m ∷ value ∷ rest)))
+        (sym top.worth_is) (faulting next.r top.e next.array_is (fits next.r next.array_is)))
+
+    load_faults : (place : Place) (value : Value) (rest : List Value) → OfItem place (loads place i f heap) value rest
+    load_faults place value rest = λ r e is fits. load_effects place r e i f heap number array value rest is fits
+
+    address_faults : (place : Place) (value : Value) (rest : List Value)
+        → OfItem place (addresses place i f heap) value rest
+    address_faults place value rest = λ r e is fits. address_effects place r e i f heap number array value rest is fits
 
     load_here : (place : Place) (ws : List Var) (stack below : List Value) (effect : Effect) → HaveValues number array ws (stack ++ below)
         → HasEffect (loads place i f heap stack) effect → Faulting (element_of (slice_get ws 1) (slice_get ws 0)) (loads place i f heap stack)
-    load_here place ws (values.Int n ∷ values.Null ∷ rest) below effect have has = load_at place ws n values.Null rest below None refl have (λ r is. null_fits place r is)
+    load_here place ws (values.Int n ∷ values.Null ∷ rest) below effect have has =
+        element_at place (loads place i f heap) ws n values.Null rest below None (load_faults place values.Null rest)
+        refl have (λ r is. null_fits place r is)
     load_here place ws (values.Int n ∷ values.Array a ∷ rest) below effect have has =
-        load_at place ws n (values.Array a) rest below (Some a) refl have (λ r is. array_fits place r a is (fits_there place (slice_get heap a) _ effect has))
+        element_at place (loads place i f heap) ws n (values.Array a) rest below (Some a)
+        (load_faults place (values.Array a) rest) refl have
+        (λ r is. array_fits place r a is (fits_there place (slice_get heap a) _ effect has))
     load_here place ws _ below effect have has = absurd has
+
+    address_here : (place : Option Place) (ws : List Var) (stack below : List Value) (effect : Effect)
+        → HaveValues number array ws (stack ++ below) → HasEffect (takes_address place i f heap stack) effect
+        → Faulting (element_of (slice_get ws 1) (slice_get ws 0)) (takes_address place i f heap stack)
+    address_here (Some place) ws (values.Int n ∷ values.Null ∷ rest) below effect have has =
+        element_at place (addresses place i f heap) ws n values.Null rest below None
+        (address_faults place values.Null rest) refl have
+        (λ r is. null_fits place r is)
+    address_here (Some place) ws (values.Int n ∷ values.Array a ∷ rest) below effect have has =
+        element_at place (addresses place i f heap) ws n (values.Array a) rest below (Some a)
+        (address_faults place (values.Array a) rest) refl have
+        (λ r is. array_fits place r a is (fits_there place (slice_get heap a) _ effect has))
+    address_here (Some place) ws _ below effect have has = absurd has
+    address_here None ws stack below effect have has = absurd has
 
     store_at : (place : Place) (ws : List Var) (x n : ℤ) (value : Value) (rest below : List Value) (a : Option ℕ) → reference_of value ≡ Some a
         → HaveValues number array ws (values.Int x ∷ values.Int n ∷ value ∷ rest ++ below)
@@ -221,10 +296,13 @@ module _ (number : ℕ → ℤ) (array : ℕ → Option ℕ) where
         by (vars.Number e) = free es none
         by (vars.Reference r) = free es none
         by vars.Text = free es none
+        by (vars.Address r e) = free es none
     free_binary op es (Some (vars.Number a)) (Some (vars.Reference q)) nothing none = free es none
     free_binary op es (Some (vars.Number a)) (Some vars.Text) nothing none = free es none
+    free_binary op es (Some (vars.Number a)) (Some (vars.Address q e)) nothing none = free es none
     free_binary op es (Some (vars.Reference r)) (Some w) nothing none = free es none
     free_binary op es (Some vars.Text) (Some w) nothing none = free es none
+    free_binary op es (Some (vars.Address r e)) (Some w) nothing none = free es none
 
     compared_here : (op : BinOp) (cmp : CmpOp) (ws : List Var) (stack : List Value) → ((a b : Expr) → operator_conditions op a b ≡ [])
         → Faulting (binary_of op (slice_get ws 1) (slice_get ws 0)) (comparison cmp i f heap stack)
@@ -301,6 +379,8 @@ module _ (number : ℕ → ℤ) (array : ℕ → Option ℕ) where
     effects_here ops.Length unit known below effect have has = length_here (reverse known.variables) f.stack below effect have has
     effects_here (ops.LoadElem place) unit known below effect have has = load_here place (reverse known.variables) f.stack below effect have has
     effects_here (ops.StoreElem place) unit known below effect have has = store_here place (reverse known.variables) f.stack below effect have has
+    effects_here (ops.LoadAddr n) unit known below effect have has =
+        address_here (array_place n) (reverse known.variables) f.stack below effect have has
     effects_here (ops.NewArray n) unit known below effect have has = new_here (array_place n) (reverse known.variables) f.stack below effect have has
     effects_here (ops.Bin op) unit known below effect have has = binary_here op (reverse known.variables) f.stack below effect have has
     effects_here (ops.Call n) unit known below effect have has = call_here (unit_call n) known below effect have has
@@ -320,11 +400,68 @@ module _ (number : ℕ → ℤ) (array : ℕ → Option ℕ) where
     effects_here ops.Not unit known below effect have has = free_here ops.Not unit (quiet.quiet_changes i f heap unary.Not f.stack)
     effects_here ops.ConvI4 unit known below effect have has = free_here ops.ConvI4 unit (quiet.quiet_converts i f heap f.stack)
     effects_here (ops.Text token) unit known below effect have has = free_here (ops.Text token) unit (tt, tt)
+    effects_here (ops.LoadInd place) unit known below effect have has =
+        free_here (ops.LoadInd place) unit (quiet.quiet_loads_through i f heap place f.stack)
+    effects_here (ops.StoreInd place) unit known below effect have has =
+        free_here (ops.StoreInd place) unit (quiet.quiet_stores_through i f heap place f.stack)
+
+    -- ---- items of addresses
+
+    abbrev AreAllMet : Option Operation → Type 0
+    AreAllMet o = AreMet (option_map_or conditions_of o []) heap number array
+
+    item_here : (ws : List Var) (a n : ℕ) (vs : List Value) → HaveValues number array ws (values.Addr a n ∷ vs)
+        → IsValue heap (values.Addr a n) → AreAllMet (item_of (slice_get ws 0))
+    item_here ws a n vs have is =
+        let top = first_address ws a n vs have in
+        subst (λ (us : List Var). AreAllMet (item_of (slice_get us 0))) (sym top.is)
+        (address_is_met top.r top.e heap number array (values.Addr a n) top.address_is is)
+
+    loaded_through : (place : Place) (ws : List Var) (stack below : List Value) (effect : Effect)
+        → HaveValues number array ws (stack ++ below) → AllByRecursion (IsValue heap) stack
+        → HasEffect (loads_through place i f heap stack) effect → AreAllMet (item_of (slice_get ws 0))
+    loaded_through place ws (values.Addr a n ∷ rest) below effect have are has =
+        item_here ws a n (rest ++ below) have are.0
+    loaded_through place ws _ below effect have are has = absurd has
+
+    stored_through : (place : Place) (ws : List Var) (stack below : List Value) (effect : Effect)
+        → HaveValues number array ws (stack ++ below) → AllByRecursion (IsValue heap) stack
+        → HasEffect (stores_through place i f heap stack) effect → AreAllMet (item_of (slice_get ws 1))
+    stored_through place ws (values.Int v ∷ values.Addr a n ∷ rest) below effect have are has =
+        let put = first_any ws (values.Int v) (values.Addr a n ∷ rest ++ below) have in
+        subst (λ (vs : List Var). AreAllMet (item_of (slice_get vs 1))) (sym put.is)
+        (item_here put.rest a n (rest ++ below) put.have are.1.0)
+    stored_through place ws _ below effect have are has = absurd has
+
+    -- What is assumed after an instruction is so, where it did anything at all and what it is judged by is met.
+    assumed_here : (op : Op) (unit : MethodUnit) (known : StateFacts) (below : List Value) (effect : Effect)
+        → HaveValues number array (reverse known.variables) (f.stack ++ below) → AllByRecursion (IsValue heap) f.stack
+        → HasEffect (effects_of op unit i f heap) effect → AreMet (conditions_at op known) heap number array
+        → AreMet (conditions_after op known) heap number array
+    assumed_here (ops.LoadInd place) unit known below effect have are has met =
+        loaded_through place (reverse known.variables) f.stack below effect have are has
+    assumed_here (ops.StoreInd place) unit known below effect have are has met =
+        stored_through place (reverse known.variables) f.stack below effect have are has
+    assumed_here _ unit known below effect have are has met = met
+
+on_stack : (f : Frame) (known : StateFacts) (number : ℕ → ℤ) (array : ℕ → Option ℕ)
+    → HaveValues number array known.variables (variables_of f)
+    → HaveValues number array (reverse known.variables) (f.stack ++ below_stack f)
+on_stack f known number array have =
+    subst (HaveValues number array (reverse known.variables)) (stack_first f)
+    (have_reversed number array known.variables (variables_of f) have)
 
 -- Of an instruction that does anything at all.
 pub faults_where_unmet : (unit : MethodUnit) (i : Instr) (f : Frame) (heap : Heap) (known : StateFacts) (number : ℕ → ℤ) (array : ℕ → Option ℕ) (effect : Effect)
     → HaveValues number array known.variables (variables_of f) → HasEffect (effects unit i f heap) effect
     → EffectsFaultWhereUnmet (conditions_at i.op known) heap number array (effects unit i f heap)
 faults_where_unmet unit i f heap known number array effect have has =
-    effects_here number array i f heap i.op unit known (below_stack f) effect
-    (subst (HaveValues number array (reverse known.variables)) (stack_first f) (have_reversed number array known.variables (variables_of f) have)) has
+    effects_here number array i f heap i.op unit known (below_stack f) effect (on_stack f known number array have) has
+
+pub assumed_where_met : (unit : MethodUnit) (i : Instr) (f : Frame) (heap : Heap) (known : StateFacts) (number : ℕ → ℤ)
+    (array : ℕ → Option ℕ) (effect : Effect) → HaveValues number array known.variables (variables_of f)
+    → AllByRecursion (IsValue heap) f.stack → HasEffect (effects unit i f heap) effect
+    → AreMet (conditions_at i.op known) heap number array → AreMet (conditions_after i.op known) heap number array
+assumed_where_met unit i f heap known number array effect have are has met =
+    assumed_here number array i f heap i.op unit known (below_stack f) effect (on_stack f known number array have) are
+    has met

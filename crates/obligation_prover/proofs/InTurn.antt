@@ -1,5 +1,4 @@
--- Where each fault of an operation is ruled out in turn, an instruction with it ends in none. To assume that each did
--- not come is to assume that none did.
+-- Where each fault of an operation is ruled out in turn, an instruction with it ends in none.
 use Rattle.std.proofs.Common.{◌≡◌, ℕ, ℤ, Bool, true, false, Option, Some, None, List, [], ◌∷◌, map, reverse, refl, sym, ap, subst, ◌∙◌}
 use Rattle.std.specs.Prelude.{if◌then◌else◌, slice_get}
 use Rattle.std.specs.List.{AllByRecursion}
@@ -33,11 +32,10 @@ use Rattle.state_obligations.specs.Assumed.{assumed_by}
 use Rattle.state_obligations.specs.Conditions.{AreThere, conditions_of, fault_of, is_of, operator_conditions, with_fault}
 use Rattle.state_obligations.specs.Entailed.{entailed_by}
 use Rattle.state_obligations.specs.Following.{StaysThere, StaysThereIn}
-use Rattle.state_obligations.specs.Judged.{judged}
 use Rattle.state_obligations.specs.Meaning.{AreMet, AreOfInt32, IsMet}
 use Rattle.state_obligations.specs.declared.condition.Condition.{Condition}
 use Rattle.state_obligations.specs.declared.condition.Operation.{Operation}
-use Rattle.obligation_prover.specs.Avoiding.{avoid, avoid_all, avoid_each}
+use Rattle.obligation_prover.specs.Avoiding.{avoid}
 use Rattle.obligation_prover.specs.EachFault.{AreRuledOutInTurn, RulesOutInTurn}
 use Rattle.obligation_prover.specs.Entailed.{condition_of, rules_out}
 use Rattle.obligation_prover.specs.Faults.{call_faults, faults_of}
@@ -88,6 +86,7 @@ module _ (unit : MethodUnit) where
   length_faults (Some (vars.Reference r)) = refl
   length_faults (Some (vars.Number e)) = tt
   length_faults (Some vars.Text) = tt
+  length_faults (Some (vars.Address r e)) = tt
 
   element_faults_are : (kinds : List FaultKind) (v w : Option Var) → faults_of unit (ops.LoadElem places.Ints) ≡ kinds
       → OfOperation kinds (element_of v w)
@@ -99,16 +98,20 @@ module _ (unit : MethodUnit) where
       by (vars.Reference r) = tt
       by (vars.Number e) = tt
       by vars.Text = tt
+      by (vars.Address r e) = tt
   element_faults_are kinds (Some (vars.Reference r)) (Some (vars.Reference q)) is = tt
   element_faults_are kinds (Some (vars.Reference r)) (Some vars.Text) is = tt
+  element_faults_are kinds (Some (vars.Reference r)) (Some (vars.Address q e)) is = tt
   element_faults_are kinds (Some (vars.Number e)) (Some w) is = tt
   element_faults_are kinds (Some vars.Text) (Some w) is = tt
+  element_faults_are kinds (Some (vars.Address r e)) (Some w) is = tt
 
   array_faults : (number : ℕ) (v : Option Var) → OfOperation (faults_of unit (ops.NewArray number)) (array_of v)
   array_faults number None = tt
   array_faults number (Some (vars.Number n)) = refl
   array_faults number (Some (vars.Reference r)) = tt
   array_faults number (Some vars.Text) = tt
+  array_faults number (Some (vars.Address r e)) = tt
 
   binary_faults : (op : BinOp) (v w : Option Var) → OfOperation (faults_of unit (ops.Bin op)) (binary_of op v w)
   binary_faults op (Some (vars.Number a)) (Some (vars.Number b)) =
@@ -120,16 +123,20 @@ module _ (unit : MethodUnit) where
       by (vars.Number e) = tt
       by (vars.Reference r) = tt
       by vars.Text = tt
+      by (vars.Address r e) = tt
   binary_faults op (Some (vars.Number a)) (Some (vars.Reference q)) = tt
   binary_faults op (Some (vars.Number a)) (Some vars.Text) = tt
+  binary_faults op (Some (vars.Number a)) (Some (vars.Address q e)) = tt
   binary_faults op (Some (vars.Reference r)) (Some w) = tt
   binary_faults op (Some vars.Text) (Some w) = tt
+  binary_faults op (Some (vars.Address r e)) (Some w) = tt
 
   assertion_faults : (v : Option Var) → OfOperation (faults.Assert ∷ []) (assertion_of v)
   assertion_faults None = tt
   assertion_faults (Some (vars.Number e)) = refl
   assertion_faults (Some (vars.Reference r)) = tt
   assertion_faults (Some vars.Text) = tt
+  assertion_faults (Some (vars.Address r e)) = tt
 
   call_faults_are : (call : Option UnitCall) (known : StateFacts) → OfOperation (call_faults call) (call_operation call known)
   call_faults_are (Some (calls.Assert message)) known = assertion_faults (from_top (condition_depth message) known)
@@ -142,6 +149,8 @@ module _ (unit : MethodUnit) where
   faults_at ops.Length known = length_faults (from_top 0 known)
   faults_at (ops.LoadElem place) known = element_faults_are (faults_of unit (ops.LoadElem place)) (from_top 1 known) (from_top 0 known) refl
   faults_at (ops.StoreElem place) known = element_faults_are (faults_of unit (ops.StoreElem place)) (from_top 2 known) (from_top 1 known) refl
+  faults_at (ops.LoadAddr number) known =
+      element_faults_are (faults_of unit (ops.LoadAddr number)) (from_top 1 known) (from_top 0 known) refl
   faults_at (ops.NewArray number) known = array_faults number (from_top 0 known)
   faults_at (ops.Bin op) known = binary_faults op (from_top 1 known) (from_top 0 known)
   faults_at (ops.Call number) known = call_faults_are (unit_call number) known
@@ -171,6 +180,9 @@ same_conditions (ops.LoadElem place) before after stays =
     ap (λ (vs : List Var). option_map_or conditions_of (element_of (slice_get (reverse vs) 1) (slice_get (reverse vs) 0)) []) stays.variables
 same_conditions (ops.StoreElem place) before after stays =
     ap (λ (vs : List Var). option_map_or conditions_of (element_of (slice_get (reverse vs) 2) (slice_get (reverse vs) 1)) []) stays.variables
+same_conditions (ops.LoadAddr number) before after stays =
+    ap (λ (vs : List Var). option_map_or conditions_of
+    (element_of (slice_get (reverse vs) 1) (slice_get (reverse vs) 0)) []) stays.variables
 same_conditions (ops.NewArray number) before after stays = ap (λ (vs : List Var). option_map_or conditions_of (array_of (slice_get (reverse vs) 0)) []) stays.variables
 same_conditions (ops.Bin op) before after stays =
     ap (λ (vs : List Var). option_map_or conditions_of (binary_of op (slice_get (reverse vs) 1) (slice_get (reverse vs) 0)) []) stays.variables
@@ -216,29 +228,6 @@ module _ (unit : MethodUnit) (op : Op) (all : List Condition) where
       later None stays holds ruled next = absurd holds
       later (Some x) stays still ruled next = next x stays ruled still
 
-  -- To assume one after another that these faults did not come is to assume that their conditions are met.
-  each_is_judged : (cs : List Condition) (known : StateFacts) → HasForm known → AreThere known cs → conditions_at op known ≡ all → AreFound all cs
-      → avoid_each unit op (map fault_of cs) (Some known) ≡ (judged cs (Some known)).state
-  each_is_judged [] known form there same found = refl
-  each_is_judged (c ∷ cs) known form there same found =
-      ap (λ (o : State). avoid_each unit op (map fault_of cs) o) (avoids_by c known same found.0)
-      ∙ later (assumed_by c known) (assumed_follows c known form there.0)
-      (λ x stays. each_is_judged cs x stays.form (conditions_still known x cs stays there.1) (same_conditions op known x stays ∙ same) found.1)
-    where
-      nothing_avoided : (kinds : List FaultKind) → avoid_each unit op kinds None ≡ None
-      nothing_avoided [] = refl
-      nothing_avoided (kind ∷ kinds) = nothing_avoided kinds
-
-      nothing_judged : (cs : List Condition) → (judged cs None).state ≡ None
-      nothing_judged [] = refl
-      nothing_judged (d ∷ cs) = nothing_judged cs
-
-      later : (o : State) → StaysThereIn known o
-          → ((x : StateFacts) → StaysThere known x → avoid_each unit op (map fault_of cs) (Some x) ≡ (judged cs (Some x)).state)
-          → avoid_each unit op (map fault_of cs) o ≡ (judged cs o).state
-      later None stays next = nothing_avoided (map fault_of cs) ∙ sym (nothing_judged cs)
-      later (Some x) stays next = next x stays
-
 -- ---- states
 
 module _ (unit : MethodUnit) (i : Instr) (p : Point) (known : StateFacts) (form : HasForm known) (at : HoldsAt (Some known) p)
@@ -264,22 +253,3 @@ in_turn unit op = λ state form ruled kind i p same at has.
         → HasEffect (effects unit i p.frame p.heap) (Faults kind) → ⊥
     by None form i ruled p at kind has = at.frame.holds
     by (Some known) form i ruled p at kind has = no_fault_here unit i p known (form known refl) at ruled kind has
-
-nothing_owed : (unit : MethodUnit) (op : Op) (known : StateFacts) (kinds : List FaultKind) → conditions_at op known ≡ [] → avoid_each unit op kinds (Some known) ≡ Some known
-nothing_owed unit op known [] none = refl
-nothing_owed unit op known (kind ∷ kinds) none =
-    ap (λ (o : State). avoid_each unit op kinds o) (ap (λ cs. option_map_or (λ c. assumed_by c known) (with_fault kind cs) (Some known)) none)
-    ∙ nothing_owed unit op known kinds none
-
--- To assume of each fault that it did not come is to assume that none did.
-pub each_is_all : (unit : MethodUnit) (op : Op) (known : StateFacts) → HasForm known → avoid_each unit op (faults_of unit op) (Some known) ≡ avoid_all op (Some known)
-each_is_all unit op known form = by (conditions_at op known) refl (faults_at unit op known)
-  where
-    by : (cs : List Condition) → conditions_at op known ≡ cs → HaveFaults (faults_of unit op) cs
-        → avoid_each unit op (faults_of unit op) (Some known) ≡ (judged (conditions_at op known) (Some known)).state
-    by [] is have = nothing_owed unit op known (faults_of unit op) is ∙ ap (λ cs. (judged cs (Some known)).state) (sym is)
-    by (c ∷ cs) is have =
-        ap (λ kinds. avoid_each unit op kinds (Some known)) (sym have)
-        ∙ each_is_judged unit op (c ∷ cs) (c ∷ cs) known form (subst (AreThere known) is (conditions_there op known form)) is
-        (each_found (c ∷ cs) (subst AreDistinct is (distinct_at op known)))
-        ∙ ap (λ ds. (judged ds (Some known)).state) (sym is)

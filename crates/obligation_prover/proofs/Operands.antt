@@ -23,7 +23,7 @@ use Rattle.state_obligations.specs.declared.condition.Condition.{Condition}
 use Rattle.state_obligations.specs.declared.condition.Condition.TheVariants as conditions
 use Rattle.state_obligations.specs.declared.condition.Operation.{Operation}
 use Rattle.state_obligations.specs.declared.condition.Operation.TheVariants as operations
-use Rattle.obligation_prover.specs.Operations.{array_of, assertion_of, binary_of, call_operation, condition_depth, conditions_after, conditions_at, element_of, from_top, length_of, operation_of}
+use Rattle.obligation_prover.specs.Operations.{array_of, assertion_of, assumed_operation, binary_of, call_operation, condition_depth, conditions_after, conditions_at, element_of, from_top, item_of, length_of, operation_of}
 use Rattle.obligation_prover.proofs.PointValues.{FitsVar}
 
 -- ---- operands
@@ -52,6 +52,7 @@ module _ (P : Var → Type 0) where
   length_operand (Some (vars.Reference r)) is = is
   length_operand (Some (vars.Number e)) is = tt
   length_operand (Some vars.Text) is = tt
+  length_operand (Some (vars.Address r e)) is = tt
 
   element_operands : (v w : Option Var) → IfThere P v → IfThere P w → IfThere (OperandsAre P) (element_of v w)
   element_operands (Some (vars.Reference r)) (Some (vars.Number i)) is also = (is, also)
@@ -62,16 +63,20 @@ module _ (P : Var → Type 0) where
       by (vars.Reference r) = tt
       by (vars.Number e) = tt
       by vars.Text = tt
+      by (vars.Address r e) = tt
   element_operands (Some (vars.Reference r)) (Some (vars.Reference q)) is also = tt
   element_operands (Some (vars.Reference r)) (Some vars.Text) is also = tt
+  element_operands (Some (vars.Reference r)) (Some (vars.Address q e)) is also = tt
   element_operands (Some (vars.Number e)) (Some w) is also = tt
   element_operands (Some vars.Text) (Some w) is also = tt
+  element_operands (Some (vars.Address r e)) (Some w) is also = tt
 
   array_operand : (v : Option Var) → IfThere P v → IfThere (OperandsAre P) (array_of v)
   array_operand None is = tt
   array_operand (Some (vars.Number n)) is = is
   array_operand (Some (vars.Reference r)) is = tt
   array_operand (Some vars.Text) is = tt
+  array_operand (Some (vars.Address r e)) is = tt
 
   binary_operands : (op : BinOp) (v w : Option Var) → IfThere P v → IfThere P w → IfThere (OperandsAre P) (binary_of op v w)
   binary_operands op (Some (vars.Number a)) (Some (vars.Number b)) is also = (is, also)
@@ -82,16 +87,31 @@ module _ (P : Var → Type 0) where
       by (vars.Number e) = tt
       by (vars.Reference r) = tt
       by vars.Text = tt
+      by (vars.Address r e) = tt
   binary_operands op (Some (vars.Number a)) (Some (vars.Reference q)) is also = tt
   binary_operands op (Some (vars.Number a)) (Some vars.Text) is also = tt
+  binary_operands op (Some (vars.Number a)) (Some (vars.Address q e)) is also = tt
   binary_operands op (Some (vars.Reference r)) (Some w) is also = tt
   binary_operands op (Some vars.Text) (Some w) is also = tt
+  binary_operands op (Some (vars.Address r e)) (Some w) is also = tt
 
   assertion_operand : (v : Option Var) → IfThere P v → IfThere (OperandsAre P) (assertion_of v)
   assertion_operand None is = tt
   assertion_operand (Some (vars.Number e)) is = is
   assertion_operand (Some (vars.Reference r)) is = tt
   assertion_operand (Some vars.Text) is = tt
+  assertion_operand (Some (vars.Address r e)) is = tt
+
+  -- What is so of an address is so of its reference and of its index.
+  abbrev IsOfBoth : Type 0
+  IsOfBoth = (r : ℕ) (e : Expr) → P (vars.Address r e) → P (vars.Reference r) × P (vars.Number e)
+
+  item_operands : IsOfBoth → (v : Option Var) → IfThere P v → IfThere (OperandsAre P) (item_of v)
+  item_operands both None is = tt
+  item_operands both (Some (vars.Address r e)) is = both r e is
+  item_operands both (Some (vars.Number e)) is = tt
+  item_operands both (Some (vars.Reference r)) is = tt
+  item_operands both (Some vars.Text) is = tt
 
   module _ (known : StateFacts) (all : AllByRecursion P known.variables) where
     on_stack : (above : ℕ) → IfThere P (from_top above known)
@@ -107,10 +127,17 @@ module _ (P : Var → Type 0) where
     operands_are ops.Length = length_operand (from_top 0 known) (on_stack 0)
     operands_are (ops.LoadElem place) = element_operands (from_top 1 known) (from_top 0 known) (on_stack 1) (on_stack 0)
     operands_are (ops.StoreElem place) = element_operands (from_top 2 known) (from_top 1 known) (on_stack 2) (on_stack 1)
+    operands_are (ops.LoadAddr number) =
+        element_operands (from_top 1 known) (from_top 0 known) (on_stack 1) (on_stack 0)
     operands_are (ops.NewArray number) = array_operand (from_top 0 known) (on_stack 0)
     operands_are (ops.Bin op) = binary_operands op (from_top 1 known) (from_top 0 known) (on_stack 1) (on_stack 0)
     operands_are (ops.Call number) = call_operands (unit_call number)
     operands_are _ = tt
+
+    assumed_are : IsOfBoth → (op : Op) → IfThere (OperandsAre P) (assumed_operation op known)
+    assumed_are both (ops.LoadInd place) = item_operands both (from_top 0 known) (on_stack 0)
+    assumed_are both (ops.StoreInd place) = item_operands both (from_top 1 known) (on_stack 1)
+    assumed_are both op = operands_are op
 
 -- ---- conditions
 
@@ -162,8 +189,12 @@ conditions_fit op known number fit =
 
 -- So for those that are assumed once it went on.
 pub assumed_there : (op : Op) (known : StateFacts) → HasForm known → AreThere known (conditions_after op known)
-assumed_there op known form = conditions_there op known form
+assumed_there op known form =
+    all_of (OperandsAre (HasVar known)) (IsThere known) (assumed_operation op known)
+    (λ o is. operation_there known o is) (assumed_are (HasVar known) known form.variables (λ r e is. is) op)
 
 pub assumed_fit : (op : Op) (known : StateFacts) (number : ℕ → ℤ) → AllByRecursion (FitsVar number) known.variables
     → AreOfInt32 (conditions_after op known) number
-assumed_fit op known number fit = conditions_fit op known number fit
+assumed_fit op known number fit =
+    all_of (OperandsAre (FitsVar number)) (λ c. IsOfInt32 c number) (assumed_operation op known)
+    (λ o is. operation_fits number o is) (assumed_are (FitsVar number) known fit (λ r e is. (tt, is)) op)

@@ -43,6 +43,7 @@ each_plain unit (ops.NewArray number) = (refl, tt)
 each_plain unit ops.Length = (refl, tt)
 each_plain unit (ops.LoadElem place) = (refl, (refl, (refl, tt)))
 each_plain unit (ops.StoreElem place) = (refl, (refl, (refl, tt)))
+each_plain unit (ops.LoadAddr number) = (refl, (refl, (refl, tt)))
 each_plain unit _ = tt
 
 among_plain : (kinds : List FaultKind) (kind : FaultKind) → AllByRecursion (λ k. is_of_clause k ≡ false) kinds

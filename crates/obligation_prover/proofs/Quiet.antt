@@ -1,22 +1,24 @@
 -- Instructions that end in no fault.
-use Rattle.std.proofs.Common.{ℕ, Bool, true, false, not, Option, Some, None, List, [], ◌∷◌, sym, subst, ⊎_elim, slice_get}
-use Rattle.std.specs.Prelude.{option_map, pos}
+use Rattle.std.proofs.Common.{ℕ, Bool, true, false, not, nat_lt, Option, Some, None, List, [], ◌∷◌, length, sym, subst, ⊎_elim, slice_get}
+use Rattle.std.specs.Prelude.{if◌then◌else◌, option_map, pos}
 use Rattle.std.specs.Ordering.{int_eq}
 use Rattle.std.proofs.lemmas.Bool.{cond_both}
 use Rattle.std.specs.List.{AllByRecursion}
 use Rattle.cil_model.specs.Arithmetic.{unsigned}
 use Rattle.cil_model.specs.Comparisons.{comparison_value, compares_values, is_true}
-use Rattle.cil_model.specs.Effects.{Assumes, Effect, Faults, HasEffect, branches, branches_by, changes, comparison, converts, duplicates, pops, pushes, stored, stores_arg, stores_local, switches, switches_to, tests_condition, with_args, with_locals}
-use Rattle.cil_model.specs.Values.{Heap}
+use Rattle.cil_model.specs.Effects.{Assumes, Effect, Faults, HasEffect, branches, branches_by, changes, comparison, converts, duplicates, goes_on, item_of, loads_through, of_place, pops, pushes, stored, stores_arg, stores_local, stores_through, switches, switches_to, tests_condition, with_args, with_item, with_locals}
+use Rattle.cil_model.specs.Values.{Heap, same_place}
 use Rattle.cil_model.specs.declared.instruction.CmpOp.{CmpOp}
 use Rattle.cil_model.specs.declared.instruction.Instr.{Instr}
 use Rattle.cil_model.specs.declared.instruction.Test.{Test}
 use Rattle.cil_model.specs.declared.instruction.Test.TheVariants as tests
 use Rattle.cil_model.specs.declared.instruction.UnOp.{UnOp}
+use Rattle.cil_model.specs.declared.machine.ArrayCell.{ArrayCell}
 use Rattle.cil_model.specs.declared.machine.FaultKind.{FaultKind}
 use Rattle.cil_model.specs.declared.machine.Frame.{Frame}
 use Rattle.cil_model.specs.declared.machine.Value.{Value}
 use Rattle.cil_model.specs.declared.machine.Value.TheVariants as values
+use Rattle.cil_model.specs.declared.place.Place.{Place}
 use Rattle.cil_model.specs.declared.unit.Unit.{Unit as MethodUnit}
 use Rattle.state_obligations.specs.Faults.{HasNoFault}
 
@@ -96,6 +98,27 @@ module _ (i : Instr) (f : Frame) (heap : Heap) where
   quiet_comparison op [] = tt
   quiet_comparison op (b ∷ []) = tt
   quiet_comparison op (b ∷ a ∷ rest) = quiet_pushes rest (comparison_value op a b)
+
+  quiet_of_place : (place : Place) (o : Option ArrayCell) (done : ArrayCell → List Effect)
+      → ((cell : ArrayCell) → AreQuiet (done cell)) → AreQuiet (of_place place o done)
+  quiet_of_place place None done quiet = tt
+  quiet_of_place place (Some cell) done quiet =
+      cond_both (same_place cell.place place) _ _ AreQuiet (λ is. quiet cell) (λ other. tt)
+
+  pub quiet_loads_through : (place : Place) (stack : List Value) → AreQuiet (loads_through place i f heap stack)
+  quiet_loads_through place (values.Addr a n ∷ rest) =
+      quiet_of_place place (slice_get heap a)
+      (λ cell. pushes i f heap rest (option_map values.Int (slice_get cell.items n)))
+      (λ cell. quiet_pushes rest (option_map values.Int (slice_get cell.items n)))
+  quiet_loads_through place _ = tt
+
+  pub quiet_stores_through : (place : Place) (stack : List Value) → AreQuiet (stores_through place i f heap stack)
+  quiet_stores_through place (values.Int v ∷ values.Addr a n ∷ rest) =
+      quiet_of_place place (slice_get heap a)
+      (λ cell.
+      if nat_lt n (length cell.items) then goes_on i f (with_item heap a cell n (item_of place v)) rest else [])
+      (λ cell. cond_both (nat_lt n (length cell.items)) _ _ AreQuiet (λ within. (tt, tt)) (λ beyond. tt))
+  quiet_stores_through place _ = tt
 
   pub quiet_assumption : (stack : Option (List Value)) → AreQuiet (tests_condition Assumes i f heap stack)
   quiet_assumption (Some (values.Int n ∷ rest)) = cond_both (int_eq n (pos 0)) _ _ AreQuiet (λ zero. (tt, tt)) (λ other. (tt, tt))

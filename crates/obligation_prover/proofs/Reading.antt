@@ -17,7 +17,7 @@ use Rattle.state_obligations.specs.declared.condition.Condition.{Condition}
 use Rattle.state_obligations.specs.declared.condition.Operation.{Operation}
 use Rattle.obligation_prover.specs.Entailed.{condition_of}
 use Rattle.obligation_prover.specs.Meaning.{AssumesNoFault}
-use Rattle.obligation_prover.specs.Operations.{array_of, binary_of, call_operation, conditions_at, element_of, length_of, operation_of}
+use Rattle.obligation_prover.specs.Operations.{array_of, assumed_operation, binary_of, call_operation, conditions_at, element_of, item_of, length_of, operation_of}
 use Rattle.obligation_prover.proofs.Operands.{conditions_there}
 use Rattle.obligation_prover.proofs.RuledOut.{found_is}
 
@@ -42,6 +42,12 @@ pub store_read : (op : Op) (place : Place) (state : State) → op ≡ ops.StoreE
 unfolding operation_of
 store_read op place None is = refl
 store_read op place (Some known) is = rw is refl
+
+pub address_read : (op : Op) (number : ℕ) (state : State) → op ≡ ops.LoadAddr number
+    → element_of (top_in state 1) (top_in state 0) ≡ option_and_then (operation_of op) state
+unfolding operation_of
+address_read op number None is = refl
+address_read op number (Some known) is = rw is refl
 
 pub array_read : (op : Op) (number : ℕ) (state : State) → op ≡ ops.NewArray number → array_of (top_in state 0) ≡ option_and_then (operation_of op) state
 unfolding operation_of
@@ -70,6 +76,25 @@ pub other_read : (op : Op) (state : State) → ((known : StateFacts) → operati
 other_read op None none = refl
 other_read op (Some known) none = sym (none known)
 
+-- ---- what is assumed
+
+pub load_through_read : (op : Op) (place : Place) (state : State) → op ≡ ops.LoadInd place
+    → item_of (top_in state 0) ≡ option_and_then (assumed_operation op) state
+load_through_read op place None is = refl
+load_through_read op place (Some known) is = rw is refl
+
+pub store_through_read : (op : Op) (place : Place) (state : State) → op ≡ ops.StoreInd place
+    → item_of (top_in state 1) ≡ option_and_then (assumed_operation op) state
+store_through_read op place None is = refl
+store_through_read op place (Some known) is = rw is refl
+
+-- Of other operations that is what they are judged by.
+pub judged_read : (op : Op) (state : State) (found : Option Operation) → found ≡ option_and_then (operation_of op) state
+    → ((known : StateFacts) → assumed_operation op known ≡ operation_of op known)
+    → found ≡ option_and_then (assumed_operation op) state
+judged_read op None found is same = is
+judged_read op (Some known) found is same = is ∙ sym (same known)
+
 -- ---- conditions
 
 operations_there : (known : StateFacts) (o : Option Operation) → AreThere known (option_map_or conditions_of o [])
@@ -85,14 +110,17 @@ for_one known (Some o) there = λ x is. subst (λ (k : StateFacts). AreThere k (
     same : (a b : StateFacts) → Some a ≡ Some b → a ≡ b
     same a b e = cc
 
--- What the conditions of an operation name is there.
-pub operation_there : (op : Op) (state : State) (o : Option Operation) → ForSome state HasForm → o ≡ option_and_then (operation_of op) state
+-- What the conditions of an operation name that is found is there.
+pub operation_there : (find : StateFacts → Option Operation) (state : State) (o : Option Operation)
+    → ForSome state HasForm
+    → ((known : StateFacts) → HasForm known → AreThere known (option_map_or conditions_of (find known) []))
+    → o ≡ option_and_then find state
     → IfSome o (λ operation. ForSome state (λ known. AreThere known (conditions_of operation)))
-operation_there op None None form is = tt
-operation_there op None (Some o) form is = absurd cc
-operation_there op (Some known) o form is =
+operation_there find None None form there is = tt
+operation_there find None (Some o) form there is = absurd cc
+operation_there find (Some known) o form there is =
     for_one known o (subst (λ (x : Option Operation). IfSome x (λ operation. AreThere known (conditions_of operation))) (sym is)
-    (operations_there known (operation_of op known) (conditions_there op known (form known refl))))
+    (operations_there known (find known) (there known (form known refl))))
 
 pub condition_there : (kind : FaultKind) (op : Op) (unit : MethodUnit) (state : State) (c : Option Condition) → ForSome state HasForm
     → c ≡ option_and_then (condition_of unit op kind) state → IfSome c (λ condition. ForSome state (λ known. IsThere known condition))

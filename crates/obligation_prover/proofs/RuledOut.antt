@@ -32,9 +32,9 @@ use Rattle.obligation_prover.specs.Avoiding.{avoid, avoid_all}
 use Rattle.obligation_prover.specs.Entailed.{condition_of, rules_out}
 use Rattle.obligation_prover.specs.Meaning.{AssumesNoFault, RulesOut}
 use Rattle.obligation_prover.specs.Operations.{conditions_after, conditions_at, operation_of}
-use Rattle.obligation_prover.proofs.Faulting.{faults_where_unmet}
+use Rattle.obligation_prover.proofs.Faulting.{assumed_where_met, faults_where_unmet}
 use Rattle.obligation_prover.proofs.Operands.{assumed_fit, assumed_there, conditions_fit, conditions_there}
-use Rattle.obligation_prover.proofs.PointValues.{FitsVar, values_int32, variables_fit}
+use Rattle.obligation_prover.proofs.PointValues.{FitsVar, values_fit, variables_fit}
 
 -- ---- the condition of a fault
 
@@ -138,7 +138,7 @@ module _ (unit : MethodUnit) (i : Instr) (p : Point) (known : StateFacts) (form 
   variables_here : AllByRecursion (FitsVar at.frame.number) known.variables
   variables_here =
       variables_fit at.frame.number at.frame.array known.variables (variables_of p.frame) at.frame.holds.variables
-      (values_int32 p at.machine)
+      (values_fit at.frame.number at.frame.array p at.machine)
 
   pub fit_here : AreOfInt32 cs at.frame.number
   fit_here = conditions_fit i.op known at.frame.number variables_here
@@ -164,7 +164,9 @@ module _ (unit : MethodUnit) (i : Instr) (p : Point) (known : StateFacts) (form 
   -- So is what is assumed after it.
   met_after : (effect : Effect) → HasEffect (effects unit i p.frame p.heap) effect
       → ((kind : FaultKind) → effect ≡ Faults kind → ⊥) → AreMet after p.heap at.frame.number at.frame.array
-  met_after effect has other = met_here effect has other
+  met_after effect has other =
+      assumed_where_met unit i p.frame p.heap known at.frame.number at.frame.array effect at.frame.holds.variables
+      at.machine.stack has (met_here effect has other)
 
   pub not_here : (kind : FaultKind) → rules_out unit i.op kind (Some known) ≡ true → HasEffect (effects unit i p.frame p.heap) (Faults kind) → ⊥
   not_here kind so has = by (condition_of unit i.op kind known) refl so

@@ -1,5 +1,5 @@
 -- What is known where faults did not come: the conditions are met.
-use Rattle.std.specs.Prelude.{List, [], ◌∷◌, Some, None}
+use Rattle.std.specs.Prelude.{Some, None}
 use Rattle.std.specs.Option.{option_and_then, option_map_or}
 use Rattle.cil_model.specs.declared.instruction.Op.{Op}
 use Rattle.cil_model.specs.declared.machine.FaultKind.{FaultKind}
@@ -16,11 +16,6 @@ avoiding unit op kind known = option_map_or (λ c. assumed_by c known) (conditio
 
 abbrev pub avoid : MethodUnit → Op → FaultKind → State → State
 avoid unit op kind state = option_and_then (avoiding unit op kind) state
-
--- It did not end in one of these faults.
-abbrev pub avoid_each : MethodUnit → Op → List FaultKind → State → State
-avoid_each unit op [] state = state
-avoid_each unit op (kind ∷ kinds) state = avoid_each unit op kinds (avoid unit op kind state)
 
 -- It did not end in a fault: each condition that is assumed after it is met.
 abbrev pub avoid_all : Op → State → State

@@ -64,6 +64,9 @@ tested_by unit (ops.NewArray number) = tests.Nothing
 tested_by unit ops.Length = tests.Nothing
 tested_by unit (ops.LoadElem place) = tests.Nothing
 tested_by unit (ops.StoreElem place) = tests.Nothing
+tested_by unit (ops.LoadAddr number) = tests.Nothing
+tested_by unit (ops.LoadInd place) = tests.Nothing
+tested_by unit (ops.StoreInd place) = tests.Nothing
 
 abbrev pub contract_of : MethodUnit → Tested → List Clause
 contract_of unit tests.Nothing = []

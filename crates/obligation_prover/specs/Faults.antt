@@ -47,7 +47,7 @@ call_faults (Some (calls.OldValue place)) = []
 call_faults (Some (calls.Callee number)) = []
 call_faults None = []
 
--- Those of an item that is loaded or stored.
+-- Those of an item that is loaded or stored, or of which the address is taken.
 abbrev pub element_faults : List FaultKind
 element_faults = faults.NullUse ∷ faults.Lower ∷ faults.Upper ∷ []
 
@@ -59,6 +59,7 @@ faults_of unit (ops.NewArray number) = faults.ArraySize ∷ []
 faults_of unit ops.Length = faults.NullUse ∷ []
 faults_of unit (ops.LoadElem place) = element_faults
 faults_of unit (ops.StoreElem place) = element_faults
+faults_of unit (ops.LoadAddr number) = element_faults
 faults_of unit ops.Nop = []
 faults_of unit (ops.LoadArg n) = []
 faults_of unit (ops.StoreArg n) = []
@@ -75,6 +76,8 @@ faults_of unit ops.Neg = []
 faults_of unit ops.Not = []
 faults_of unit ops.ConvI4 = []
 faults_of unit (ops.Text token) = []
+faults_of unit (ops.LoadInd place) = []
+faults_of unit (ops.StoreInd place) = []
 
 -- The fault is one of these.
 abbrev pub IsAmong : List FaultKind → FaultKind → Type 0

@@ -49,7 +49,7 @@ fn assume_all_met(state: &mut AbsState, op: &Op) -> Result<(), NoMemory>
 }
 
 /// Assumes that an instruction of the unit with this operation did not end in a fault, one after another in the order
-/// in which the machine tests for them.
+/// in which the machine tests for them. Of a load or a store through an address it assumes that its item is there.
 ///
 /// After want of memory the state is to be given up.
 pub fn avoid_all(state: &mut AbsState, unit: &Unit, op: &Op) -> Result<(), NoMemory>

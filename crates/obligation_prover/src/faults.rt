@@ -57,7 +57,7 @@ fn operation_faults(_unit: &Unit, op: &Op) -> &'static [FaultKind]
         Op::Call(number) => call_faults(unit_call(*number)),
         Op::NewArray(_) => &[FaultKind::ArraySize],
         Op::Length => &[FaultKind::NullUse],
-        Op::LoadElem(_) | Op::StoreElem(_) => {
+        Op::LoadElem(_) | Op::StoreElem(_) | Op::LoadAddr(_) => {
             &[FaultKind::NullUse, FaultKind::Lower, FaultKind::Upper]
         }
         Op::Nop
@@ -75,7 +75,9 @@ fn operation_faults(_unit: &Unit, op: &Op) -> &'static [FaultKind]
         | Op::Neg
         | Op::Not
         | Op::ConvI4
-        | Op::Text(_) => &[],
+        | Op::Text(_)
+        | Op::LoadInd(_)
+        | Op::StoreInd(_) => &[],
     }
 }
 

@@ -17,7 +17,7 @@ fn length_of(array: Option<Var>) -> Option<Operation>
 {
     match array {
         Some(Var::Reference(r)) => Some(Operation::Length(r)),
-        Some(Var::Number(_) | Var::Text) | None => None,
+        Some(Var::Number(_) | Var::Text | Var::Address(..)) | None => None,
     }
 }
 
@@ -27,8 +27,8 @@ fn element_of(array: Option<Var>, index: Option<Var>) -> Option<Operation>
 {
     match (array, index) {
         (Some(Var::Reference(r)), Some(Var::Number(i))) => Some(Operation::Element(r, i)),
-        (Some(Var::Reference(_)), Some(Var::Reference(_) | Var::Text) | None)
-        | (Some(Var::Number(_) | Var::Text) | None, _) => None,
+        (Some(Var::Reference(_)), Some(Var::Reference(_) | Var::Text | Var::Address(..)) | None)
+        | (Some(Var::Number(_) | Var::Text | Var::Address(..)) | None, _) => None,
     }
 }
 
@@ -38,7 +38,7 @@ fn array_of(length: Option<Var>) -> Option<Operation>
 {
     match length {
         Some(Var::Number(n)) => Some(Operation::NewArray(n)),
-        Some(Var::Reference(_) | Var::Text) | None => None,
+        Some(Var::Reference(_) | Var::Text | Var::Address(..)) | None => None,
     }
 }
 
@@ -48,8 +48,8 @@ fn binary_of(op: BinOp, first: Option<Var>, second: Option<Var>) -> Option<Opera
 {
     match (first, second) {
         (Some(Var::Number(a)), Some(Var::Number(b))) => Some(Operation::Binary(op, a, b)),
-        (Some(Var::Number(_)), Some(Var::Reference(_) | Var::Text) | None)
-        | (Some(Var::Reference(_) | Var::Text) | None, _) => None,
+        (Some(Var::Number(_)), Some(Var::Reference(_) | Var::Text | Var::Address(..)) | None)
+        | (Some(Var::Reference(_) | Var::Text | Var::Address(..)) | None, _) => None,
     }
 }
 
@@ -59,7 +59,17 @@ fn assertion_of(condition: Option<Var>) -> Option<Operation>
 {
     match condition {
         Some(Var::Number(e)) => Some(Operation::Assert(e)),
-        Some(Var::Reference(_) | Var::Text) | None => None,
+        Some(Var::Reference(_) | Var::Text | Var::Address(..)) | None => None,
+    }
+}
+
+/// The item of an address.
+fn item_of(address: Option<Var>) -> Option<Operation>
+    ensures { result ≡ rule.item_of address }
+{
+    match address {
+        Some(Var::Address(r, i)) => Some(Operation::Element(r, i)),
+        Some(Var::Number(_) | Var::Reference(_) | Var::Text) | None => None,
     }
 }
 
@@ -91,6 +101,7 @@ fn found_operation(op: &Op, state: &AbsState) -> Option<Operation>
         Op::Length => length_of(state.from_top(0)),
         Op::LoadElem(_) => element_of(state.from_top(1), state.from_top(0)),
         Op::StoreElem(_) => element_of(state.from_top(2), state.from_top(1)),
+        Op::LoadAddr(_) => element_of(state.from_top(1), state.from_top(0)),
         Op::NewArray(_) => array_of(state.from_top(0)),
         Op::Bin(op) => binary_of(*op, state.from_top(1), state.from_top(0)),
         Op::Call(number) => call_operation(unit_call(*number), state),
@@ -109,7 +120,9 @@ fn found_operation(op: &Op, state: &AbsState) -> Option<Operation>
         | Op::Neg
         | Op::Not
         | Op::ConvI4
-        | Op::Text(_) => None,
+        | Op::Text(_)
+        | Op::LoadInd(_)
+        | Op::StoreInd(_) => None,
     }
 }
 
@@ -126,13 +139,51 @@ pub(crate) fn operation_of(op: &Op, state: &AbsState) -> Option<Operation>
     found_operation(op, state)
 }
 
-/// What is assumed to have ended in no fault once an instruction with this operation went on: what it is judged by.
+/// What is assumed to have ended in no fault once an instruction with this operation went on, by its rule.
+#[tactic(auto, using(crate::proofs::Reading::judged_read))]
+fn found_assumption(op: &Op, state: &AbsState) -> Option<Operation>
+    ensures { result ≡ option_and_then (rule.assumed_operation op.now) state.now }
+{
+    match op {
+        Op::LoadInd(_) => item_of(state.from_top(0)),
+        Op::StoreInd(_) => item_of(state.from_top(1)),
+        Op::Nop
+        | Op::LoadArg(_)
+        | Op::StoreArg(_)
+        | Op::LoadLocal(_)
+        | Op::StoreLocal(_)
+        | Op::Null
+        | Op::Const(_)
+        | Op::Dup
+        | Op::Pop
+        | Op::Call(_)
+        | Op::Return
+        | Op::Branch(_, _)
+        | Op::Switch(_)
+        | Op::Bin(_)
+        | Op::Neg
+        | Op::Not
+        | Op::ConvI4
+        | Op::Text(_)
+        | Op::NewArray(_)
+        | Op::Length
+        | Op::LoadElem(_)
+        | Op::StoreElem(_)
+        | Op::LoadAddr(_) => found_operation(op, state),
+    }
+}
+
+/// What is assumed to have ended in no fault once an instruction with this operation went on: what it is judged by, and
+/// of a load or a store through an address that its item is there. None as above.
 pub(crate) fn assumed_operation(op: &Op, state: &AbsState) -> Option<Operation>
     ensures value { result ≡ option_and_then (rule.assumed_operation op.now) state.now }
     ensures there { IfSome result (λ operation. ForSome state.now (λ known. AreThere known (conditions_of operation))) }
     ensures form { ForSome state.now HasForm }
 {
-    operation_of(op, state)
+    if !state.reached() {
+        return None;
+    }
+    found_assumption(op, state)
 }
 
 /// The condition of an instruction of the unit that is of this fault, among those that it is judged by.

@@ -77,6 +77,9 @@ pub fn tested_by(unit: &Unit, op: &Op) -> Tested
         | Op::Length
         | Op::LoadElem(_)
         | Op::StoreElem(_)
+        | Op::LoadAddr(_)
+        | Op::LoadInd(_)
+        | Op::StoreInd(_)
         | Op::Text(_) => Tested::Nothing,
     }
 }

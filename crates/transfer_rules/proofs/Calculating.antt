@@ -144,15 +144,13 @@ pub no_number : (n : ℤ) (o : Option Var) (after : State) → ((e : Expr) → o
 no_number n None after not = refl
 no_number n (Some v) None not = refl
 no_number n (Some (vars.Number e)) (Some known) not = absurd (not e refl)
-no_number n (Some (vars.Reference r)) (Some known) not = refl
-no_number n (Some vars.Text) (Some known) not = refl
+no_number n (Some _) (Some known) not = refl
 
 pub no_reference : (o : Option Var) (after : State) → ((r : ℕ) → o ≡ Some (vars.Reference r) → ⊥) → over_one with_length o after ≡ None
 no_reference None after not = refl
 no_reference (Some v) None not = refl
 no_reference (Some (vars.Reference r)) (Some known) not = absurd (not r refl)
-no_reference (Some (vars.Number e)) (Some known) not = refl
-no_reference (Some vars.Text) (Some known) not = refl
+no_reference (Some _) (Some known) not = refl
 
 -- ---- arrays
 
@@ -185,8 +183,7 @@ no_new : (type : Option Place) (o : Option Var) (after : State) → ((place : Pl
 no_new type None after not = refl
 no_new type (Some v) None not = refl
 no_new (Some place) (Some (vars.Number n)) (Some known) not = absurd (not place n refl refl)
-no_new (Some place) (Some (vars.Reference r)) (Some known) not = refl
-no_new (Some place) (Some vars.Text) (Some known) not = refl
+no_new (Some place) (Some _) (Some known) not = refl
 no_new None (Some v) (Some known) not = refl
 
 pub not_new : (number : ℕ) (o : Option Var) (state after : State) → Took o state after
@@ -239,16 +236,9 @@ no_rule f known none = by (from_top 0 known)
 
 no_value : (v : Var) → ((e : Expr) → v ≡ vars.Number e → ⊥) → (a i : Var) (known : StateFacts) → with_item_put a i v known ≡ None
 no_value (vars.Number e) not a i known = absurd (not e refl)
-no_value (vars.Reference r) not (vars.Reference q) (vars.Number i) known = refl
-no_value (vars.Reference r) not (vars.Reference q) (vars.Reference i) known = refl
-no_value (vars.Reference r) not (vars.Reference q) vars.Text known = refl
-no_value (vars.Reference r) not (vars.Number q) i known = refl
-no_value (vars.Reference r) not vars.Text i known = refl
-no_value vars.Text not (vars.Reference q) (vars.Number i) known = refl
-no_value vars.Text not (vars.Reference q) (vars.Reference i) known = refl
-no_value vars.Text not (vars.Reference q) vars.Text known = refl
-no_value vars.Text not (vars.Number q) i known = refl
-no_value vars.Text not vars.Text i known = refl
+no_value _ not (vars.Reference q) (vars.Number i) known = refl
+no_value _ not (vars.Reference q) _ known = refl
+no_value _ not _ i known = refl
 
 -- What is stored is no number.
 pub not_stored : (o : Option Var) (state between : State) → Took o state between → ((e : Expr) → o ≡ Some (vars.Number e) → ⊥)

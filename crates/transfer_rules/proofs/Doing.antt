@@ -16,7 +16,7 @@ use Rattle.number_spans.specs.Constants.{constant}
 use Rattle.state_facts.specs.Moves.{popped, pushed}
 use Rattle.state_facts.specs.StateFacts.{StateFacts, State}
 use Rattle.state_facts.specs.States as states
-use Rattle.transfer_rules.specs.Acts.{act, acted, arg_place, behind_call, behind_test, complemented, duplicated, loaded, local_place, negated, operated, stored, type_of, with_item_of, with_item_put, with_length, with_new}
+use Rattle.transfer_rules.specs.Acts.{act, acted, arg_place, behind_call, behind_test, complemented, duplicated, loaded, local_place, negated, operated, stored, type_of, with_address, with_item_at, with_item_of, with_item_put, with_length, with_new, with_put_at}
 use Rattle.transfer_rules.specs.Operands.{on_one, on_three, on_two}
 
 -- ---- a state that becomes another
@@ -124,6 +124,21 @@ pub item_stored : (unit : MethodUnit) (place : Place) (state : State) → option
 unfolding acted
 item_stored unit place state = done unit (ops.StoreElem place) (on_three with_item_put) state (λ known. refl)
 
+pub address_pushed : (unit : MethodUnit) (number : ℕ) (state : State)
+    → option_and_then (on_two with_address) state ≡ act unit (ops.LoadAddr number) state
+unfolding acted
+address_pushed unit number state = done unit (ops.LoadAddr number) (on_two with_address) state (λ known. refl)
+
+pub loaded_through : (unit : MethodUnit) (place : Place) (state : State)
+    → option_and_then (on_one with_item_at) state ≡ act unit (ops.LoadInd place) state
+unfolding acted
+loaded_through unit place state = done unit (ops.LoadInd place) (on_one with_item_at) state (λ known. refl)
+
+pub stored_through : (unit : MethodUnit) (place : Place) (state : State)
+    → option_and_then (on_two with_put_at) state ≡ act unit (ops.StoreInd place) state
+unfolding acted
+stored_through unit place state = done unit (ops.StoreInd place) (on_two with_put_at) state (λ known. refl)
+
 pub nothing_done : (unit : MethodUnit) (state : State) → state ≡ act unit ops.Nop state
 unfolding acted
 nothing_done unit state = left_alone unit ops.Nop state (λ known. refl)
@@ -132,4 +147,4 @@ pub converted : (unit : MethodUnit) (state : State) → state ≡ act unit ops.C
 unfolding acted
 converted unit state = left_alone unit ops.ConvI4 state (λ known. refl)
 
-pub ruleset doing = (arg_loaded, local_loaded, arg_stored, local_stored, null_pushed, constant_pushed, text_pushed, doubled, top_popped, switched, called, put_back, branched, operated_on, turned, inverted, array_made, length_pushed, item_loaded, item_stored, nothing_done, converted)
+pub ruleset doing = (arg_loaded, local_loaded, arg_stored, local_stored, null_pushed, constant_pushed, text_pushed, doubled, top_popped, switched, called, put_back, branched, operated_on, turned, inverted, array_made, length_pushed, item_loaded, item_stored, address_pushed, loaded_through, stored_through, nothing_done, converted)

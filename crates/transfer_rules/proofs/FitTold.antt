@@ -18,9 +18,9 @@ use Rattle.frame_names.specs.declared.var.Var.TheVariants as vars
 use Rattle.number_spans.specs.Constants.{constant}
 use Rattle.state_facts.specs.Forms.{HasForm, HasReference, HasVar}
 use Rattle.state_facts.specs.StateFacts.{StateFacts, State, reference_at, variables_in}
-use Rattle.transfer_rules.specs.FitTests.{fit_frame, fit_from, fit_stack, fits_kind, fits_there, is_null_or}
+use Rattle.transfer_rules.specs.FitTests.{fit_frame, fit_from, fit_stack, fits_kind, fits_there, is_null_or, is_one_of}
 use Rattle.transfer_rules.specs.Flow.{Fits}
-use Rattle.transfer_rules.specs.Forms.{FitKinds, FitsKind, FitsStack, HasKinds, is_of_place, kind_in, kinds_over}
+use Rattle.transfer_rules.specs.Forms.{FitKinds, FitsKind, FitsStack, HasKinds, is_array_of_place, is_of_place, kind_in, kinds_over}
 use Rattle.unit_flow.specs.Flow.{kinds_at}
 use Rattle.unit_flow.specs.declared.unit_flow.UnitFlow.{UnitFlow}
 
@@ -45,6 +45,23 @@ by_place place r known there = (
   λ e. same_place_of place r known there ∙ e,
 )
 
+same_array_of : (place : Place) (r : ℕ) (known : StateFacts) → HasReference known r
+    → is_one_of place r known ≡ is_array_of_place known place r
+unfolding reference_at
+same_array_of place zero known there = refl
+same_array_of place (suc r) known there =
+    rw (
+      ne_eqb (suc r) 0 (λ e. absurd (omega (arith, e))),
+      slice_get-get_or known.references r some_reference (omega (arith, there)),
+    ) refl
+
+by_array : (place : Place) (r : ℕ) (known : StateFacts) → HasReference known r
+    → (is_one_of place r known ≡ true) ↔ (is_array_of_place known place r ≡ true)
+by_array place r known there = (
+  λ e. sym (same_array_of place r known there) ∙ e,
+  λ e. same_array_of place r known there ∙ e,
+)
+
 never : (kind : Kind) (v : Var) (known : StateFacts) → fits_kind kind v known ≡ false → (FitsKind known kind v → ⊥)
     → (fits_kind kind v known ≡ true) ↔ FitsKind known kind v
 never kind v known is none = (λ e. absurd (false≢true (sym is ∙ e)), λ fits. absurd (none fits))
@@ -57,6 +74,8 @@ kind_told kinds.Ints (vars.Reference r) known there = by_place places.Ints r kno
 kind_told kinds.Bools (vars.Reference r) known there = by_place places.Bools r known there
 kind_told kinds.NullRef (vars.Reference r) known there = (λ e. eqb-true r 0 e, λ is. rw is refl)
 kind_told kinds.Text vars.Text known there = (λ e. tt, λ fits. refl)
+kind_told kinds.AddrInts (vars.Address r i) known there = by_array places.Ints r known there.0
+kind_told kinds.AddrBools (vars.Address r i) known there = by_array places.Bools r known there.0
 kind_told kind v known there = never kind v known refl (λ fits. elim fits [ ])
 
 -- ---- variables in a row

@@ -1,6 +1,7 @@
 pub mod Taking
 pub mod Moving
 pub mod Calculating
+pub mod Addressing
 pub mod Doing
 pub mod Calling
 pub mod Passing

@@ -32,8 +32,7 @@ over_none : (o : Option Var) (after : State) → ((e : Expr) → o ≡ Some (var
 over_none None after not = refl
 over_none (Some v) None not = refl
 over_none (Some (vars.Number e)) (Some known) not = absurd (not e refl)
-over_none (Some (vars.Reference r)) (Some known) not = refl
-over_none (Some vars.Text) (Some known) not = refl
+over_none (Some _) (Some known) not = refl
 
 pub no_condition : (message : Bool) (o : Option Var) (state after : State) → TookCondition message o state after
     → ((e : Expr) → o ≡ Some (vars.Number e) → ⊥) → None ≡ option_and_then (on_condition message with_condition) state

@@ -101,8 +101,7 @@ end_is count way e (Some known) past is =
 no_number : (count way : ℕ) (o : Option Var) (known : StateFacts) → ((e : Expr) → o ≡ Some (vars.Number e) → ⊥) → None ≡ with_one (with_case count way) o known
 no_number count way None known not = refl
 no_number count way (Some (vars.Number e)) known not = absurd (not e refl)
-no_number count way (Some (vars.Reference r)) known not = refl
-no_number count way (Some vars.Text) known not = refl
+no_number count way (Some _) known not = refl
 
 pub no_case : (count way : ℕ) (o : Option Var) (state : State) → o ≡ slice_get (reverse (variables_in state)) 0 → ((e : Expr) → o ≡ Some (vars.Number e) → ⊥)
     → None ≡ option_and_then (switched count way) state

@@ -70,8 +70,10 @@ calculated op (Some comparison) v w known = with_comparison op v w known
 calculated op None (vars.Number a) (vars.Number b) known = with_result op a b known
 calculated op None (vars.Number a) (vars.Reference q) known = None
 calculated op None (vars.Number a) vars.Text known = None
+calculated op None (vars.Number a) (vars.Address q f) known = None
 calculated op None (vars.Reference r) w known = None
 calculated op None vars.Text w known = None
+calculated op None (vars.Address r e) w known = None
 
 unfoldable pub operated : BinOp → StateFacts → State
 operated op known = on_two (calculated op (comparison_of op)) known
@@ -81,6 +83,7 @@ abbrev pub taken_from : ℤ → Var → StateFacts → State
 taken_from n (vars.Number e) known = with_result operators.Sub (constant n) e known
 taken_from n (vars.Reference r) known = None
 taken_from n vars.Text known = None
+taken_from n (vars.Address r e) known = None
 
 -- neg is 0 - e, and not is -1 - e.
 unfoldable pub negated : StateFacts → State
@@ -95,32 +98,68 @@ abbrev pub with_new : Option Place → Var → StateFacts → State
 with_new (Some place) (vars.Number n) known = Some (with_array place n known)
 with_new (Some place) (vars.Reference r) known = None
 with_new (Some place) vars.Text known = None
+with_new (Some place) (vars.Address r e) known = None
 with_new None v known = None
 
 abbrev pub with_length : Var → StateFacts → State
 with_length (vars.Reference r) known = given (vars.Number (length_at known r)) known
 with_length (vars.Number e) known = None
 with_length vars.Text known = None
+with_length (vars.Address r e) known = None
 
 abbrev pub with_item_of : Var → Var → StateFacts → State
 with_item_of (vars.Reference r) (vars.Number i) known = with_item r i known
 with_item_of (vars.Reference r) (vars.Reference q) known = None
 with_item_of (vars.Reference r) vars.Text known = None
+with_item_of (vars.Reference r) (vars.Address q f) known = None
 with_item_of (vars.Number e) w known = None
 with_item_of vars.Text w known = None
+with_item_of (vars.Address r e) w known = None
 
 abbrev pub with_item_put : Var → Var → Var → StateFacts → State
 with_item_put (vars.Reference r) (vars.Number i) (vars.Number value) known = with_stored r i value known
 with_item_put (vars.Reference r) (vars.Number i) (vars.Reference q) known = None
 with_item_put (vars.Reference r) (vars.Number i) vars.Text known = None
+with_item_put (vars.Reference r) (vars.Number i) (vars.Address q f) known = None
 with_item_put (vars.Reference r) (vars.Reference q) value known = None
 with_item_put (vars.Reference r) vars.Text value known = None
+with_item_put (vars.Reference r) (vars.Address q f) value known = None
 with_item_put (vars.Number e) w value known = None
 with_item_put vars.Text w value known = None
+with_item_put (vars.Address r e) w value known = None
 
 -- The same of a number that is there.
 abbrev pub with_number_put : Expr → Var → Var → StateFacts → State
 with_number_put value v w known = with_item_put v w (vars.Number value) known
+
+-- ---- addresses
+
+-- The address of an item of an array is given.
+abbrev pub with_address : Var → Var → StateFacts → State
+with_address (vars.Reference r) (vars.Number i) known = given (vars.Address r i) known
+with_address (vars.Reference r) (vars.Reference q) known = None
+with_address (vars.Reference r) vars.Text known = None
+with_address (vars.Reference r) (vars.Address q f) known = None
+with_address (vars.Number e) w known = None
+with_address vars.Text w known = None
+with_address (vars.Address r e) w known = None
+
+-- The item at an address.
+abbrev pub with_item_at : Var → StateFacts → State
+with_item_at (vars.Address r i) known = with_item r i known
+with_item_at (vars.Number e) known = None
+with_item_at (vars.Reference r) known = None
+with_item_at vars.Text known = None
+
+-- A number is stored at an address.
+abbrev pub with_put_at : Var → Var → StateFacts → State
+with_put_at (vars.Address r i) (vars.Number value) known = with_stored r i value known
+with_put_at (vars.Address r i) (vars.Reference q) known = None
+with_put_at (vars.Address r i) vars.Text known = None
+with_put_at (vars.Address r i) (vars.Address q f) known = None
+with_put_at (vars.Number e) value known = None
+with_put_at (vars.Reference r) value known = None
+with_put_at vars.Text value known = None
 
 -- ---- calls and branches
 
@@ -132,6 +171,7 @@ abbrev pub with_condition : Var → StateFacts → State
 with_condition (vars.Number e) known = assumed_by (conditions.Assert e) known
 with_condition (vars.Reference r) known = None
 with_condition vars.Text known = None
+with_condition (vars.Address r i) known = None
 
 -- Behind a call of a callee its arguments were put, its Requires are true, and it came back as its Ensures allow.
 -- Nothing is reached where there is none.
@@ -182,6 +222,9 @@ acted unit (ops.NewArray number) known = on_one (with_new (array_place number)) 
 acted unit ops.Length known = on_one with_length known
 acted unit (ops.LoadElem place) known = on_two with_item_of known
 acted unit (ops.StoreElem place) known = on_three with_item_put known
+acted unit (ops.LoadAddr number) known = on_two with_address known
+acted unit (ops.LoadInd place) known = on_one with_item_at known
+acted unit (ops.StoreInd place) known = on_two with_put_at known
 acted unit ops.Nop known = Some known
 acted unit ops.ConvI4 known = Some known
 

@@ -44,6 +44,7 @@ with_case count way (vars.Number e) known =
     else assumed comparisons.LtUn (vars.Number e) (vars.Number (constant (pos count))) false known
 with_case count way (vars.Reference r) known = None
 with_case count way vars.Text known = None
+with_case count way (vars.Address r i) known = None
 
 unfoldable pub switched : ℕ → ℕ → StateFacts → State
 switched count way known = with_one (with_case count way) (from_top 0 known) known
@@ -71,3 +72,6 @@ chosen (ops.NewArray number) way known = Some known
 chosen ops.Length way known = Some known
 chosen (ops.LoadElem place) way known = Some known
 chosen (ops.StoreElem place) way known = Some known
+chosen (ops.LoadAddr number) way known = Some known
+chosen (ops.LoadInd place) way known = Some known
+chosen (ops.StoreInd place) way known = Some known

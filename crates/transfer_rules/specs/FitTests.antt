@@ -1,5 +1,5 @@
 -- Whether the variables of states have the forms of kinds, as tests. specs/Forms.antt says what they mean.
-use Rattle.std.specs.Prelude.{ℕ, ◌+◌, ◌==◌, Bool, true, false, ◌&&◌, ◌||◌, List, [], ◌∷◌, map, length, slice_get, Option, Some}
+use Rattle.std.specs.Prelude.{ℕ, ◌+◌, ◌==◌, Bool, true, false, not, ◌&&◌, ◌||◌, List, [], ◌∷◌, map, length, slice_get, Option, Some}
 use Rattle.cil_model.specs.Values.{same_place}
 use Rattle.cil_model.specs.declared.place.Kind.{Kind}
 use Rattle.cil_model.specs.declared.place.Kind.TheVariants as kinds
@@ -16,6 +16,10 @@ use Rattle.transfer_rules.specs.Forms.{kind_in}
 abbrev pub is_null_or : Place → ℕ → StateFacts → Bool
 is_null_or place r known = r == 0 || same_place (place_at known r) place
 
+-- One to arrays of this type, which reference 0 is not.
+abbrev pub is_one_of : Place → ℕ → StateFacts → Bool
+is_one_of place r known = not (r == 0) && same_place (place_at known r) place
+
 -- What a variable has fits a kind.
 abbrev pub fits_kind : Kind → Var → StateFacts → Bool
 fits_kind kinds.Int (vars.Number e) known = true
@@ -24,6 +28,8 @@ fits_kind kinds.Ints (vars.Reference r) known = is_null_or places.Ints r known
 fits_kind kinds.Bools (vars.Reference r) known = is_null_or places.Bools r known
 fits_kind kinds.NullRef (vars.Reference r) known = r == 0
 fits_kind kinds.Text vars.Text known = true
+fits_kind kinds.AddrInts (vars.Address r i) known = is_one_of places.Ints r known
+fits_kind kinds.AddrBools (vars.Address r i) known = is_one_of places.Bools r known
 fits_kind kind v known = false
 
 -- The variable is there, and fits.

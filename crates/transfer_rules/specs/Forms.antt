@@ -1,5 +1,5 @@
 -- States whose variables have the forms of kinds.
-use Rattle.std.specs.Prelude.{◌≡◌, ℕ, Bool, true, List, [], ◌∷◌, ◌++◌, map, reverse, Option, Some, None}
+use Rattle.std.specs.Prelude.{◌≡◌, ℕ, Bool, true, false, List, [], ◌∷◌, ◌++◌, map, reverse, Option, Some, None}
 use Rattle.std.specs.Option.{option_map_or}
 use Rattle.cil_model.specs.Values.{same_place}
 use Rattle.cil_model.specs.declared.place.Kind.{Kind}
@@ -17,7 +17,12 @@ abbrev pub is_of_place : StateFacts → Place → ℕ → Bool
 is_of_place known place r =
     option_map_or (λ reference. same_place reference.place place) (reference_at known.references r) true
 
--- What a variable has fits the kind. Reference 0 fits both kinds of arrays.
+-- One to arrays of this type, which reference 0 is not.
+abbrev pub is_array_of_place : StateFacts → Place → ℕ → Bool
+is_array_of_place known place r =
+    option_map_or (λ reference. same_place reference.place place) (reference_at known.references r) false
+
+-- What a variable has fits the kind. Reference 0 fits both kinds of arrays, and an address in it fits none.
 abbrev pub FitsKind : StateFacts → Kind → Var → Type 0
 FitsKind known kinds.Int (vars.Number e) = Unit {0}
 FitsKind known kinds.Native (vars.Number e) = Unit {0}
@@ -25,6 +30,8 @@ FitsKind known kinds.Ints (vars.Reference r) = is_of_place known places.Ints r �
 FitsKind known kinds.Bools (vars.Reference r) = is_of_place known places.Bools r ≡ true
 FitsKind known kinds.NullRef (vars.Reference r) = r ≡ 0
 FitsKind known kinds.Text vars.Text = Unit {0}
+FitsKind known kinds.AddrInts (vars.Address r i) = is_array_of_place known places.Ints r ≡ true
+FitsKind known kinds.AddrBools (vars.Address r i) = is_array_of_place known places.Bools r ≡ true
 FitsKind known kind v = ⊥
 
 abbrev pub FitKinds : StateFacts → List Kind → List Var → Type 0

@@ -1,13 +1,14 @@
 pub mod Tops
 pub mod Moves
+pub mod Items
 pub mod Acting
 pub mod Choosing
 pub mod Calling
 pub mod PostLaws
 pub mod Ready
 pub mod StepsHold
-pub mod Fitting
 pub mod KindForms
+pub mod Fitting
 pub mod FittingResults
 pub mod SameKinds
 pub mod CalledForms

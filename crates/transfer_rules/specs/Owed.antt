@@ -1,6 +1,6 @@
--- What the rules ask of the state before an instruction: what an operator's second operand has to be, where the faults
--- of the operator were assumed away, and what lies on the stack before a call and before a return.
-use Rattle.std.specs.Prelude.{Option, Some, None, slice_get}
+-- What the rules ask of the state before an instruction: what an operator's second operand has to be, and the array of
+-- an address, where the faults were assumed away, and what lies on the stack before a call and before a return.
+use Rattle.std.specs.Prelude.{ℕ, ◌≤◌, Option, Some, None, slice_get}
 use Rattle.cil_model.specs.declared.instruction.BinOp.{BinOp}
 use Rattle.cil_model.specs.declared.instruction.Op.{Op}
 use Rattle.cil_model.specs.declared.instruction.Op.TheVariants as ops
@@ -22,6 +22,7 @@ abbrev pub IsReadyFor : BinOp → Var → Type 0
 IsReadyFor op (vars.Number e) = Divides op e × Shifts op e
 IsReadyFor op (vars.Reference r) = Unit {0}
 IsReadyFor op vars.Text = Unit {0}
+IsReadyFor op (vars.Address r i) = Unit {0}
 
 -- Nothing is asked of a second operand where the first is no number.
 abbrev pub AreReadyFor : BinOp → Option Var → Option Var → Type 0
@@ -29,10 +30,27 @@ AreReadyFor op (Some (vars.Number e)) (Some w) = IsReadyFor op w
 AreReadyFor op (Some (vars.Number e)) None = Unit {0}
 AreReadyFor op (Some (vars.Reference r)) w = Unit {0}
 AreReadyFor op (Some vars.Text) w = Unit {0}
+AreReadyFor op (Some (vars.Address r i)) w = Unit {0}
 AreReadyFor op None w = Unit {0}
+
+-- A reference is another one than 0, where what lies on it is an index.
+abbrev pub IsArrayAt : ℕ → Option Var → Type 0
+IsArrayAt r (Some (vars.Number i)) = 1 ≤ r
+IsArrayAt r (Some (vars.Reference q)) = Unit {0}
+IsArrayAt r (Some vars.Text) = Unit {0}
+IsArrayAt r (Some (vars.Address q f)) = Unit {0}
+IsArrayAt r None = Unit {0}
+
+abbrev pub HasItems : Option Var → Option Var → Type 0
+HasItems (Some (vars.Reference r)) w = IsArrayAt r w
+HasItems (Some (vars.Number e)) w = Unit {0}
+HasItems (Some vars.Text) w = Unit {0}
+HasItems (Some (vars.Address r i)) w = Unit {0}
+HasItems None w = Unit {0}
 
 abbrev pub IsReady : Op → StateFacts → Type 0
 IsReady (ops.Bin op) known = AreReadyFor op (from_top 1 known) (from_top 0 known)
+IsReady (ops.LoadAddr number) known = HasItems (from_top 1 known) (from_top 0 known)
 IsReady ops.Nop known = Unit {0}
 IsReady (ops.LoadArg n) known = Unit {0}
 IsReady (ops.StoreArg n) known = Unit {0}
@@ -54,6 +72,8 @@ IsReady (ops.NewArray number) known = Unit {0}
 IsReady ops.Length known = Unit {0}
 IsReady (ops.LoadElem place) known = Unit {0}
 IsReady (ops.StoreElem place) known = Unit {0}
+IsReady (ops.LoadInd place) known = Unit {0}
+IsReady (ops.StoreInd place) known = Unit {0}
 
 -- The callee is as well formed units have them, and may be called in the state. Nothing is asked where there is none.
 abbrev pub CanCallIt : Option CalleeInfo → State → Type 0
@@ -100,3 +120,6 @@ CanDo unit (ops.NewArray number) state = Unit {0}
 CanDo unit ops.Length state = Unit {0}
 CanDo unit (ops.LoadElem place) state = Unit {0}
 CanDo unit (ops.StoreElem place) state = Unit {0}
+CanDo unit (ops.LoadAddr number) state = Unit {0}
+CanDo unit (ops.LoadInd place) state = Unit {0}
+CanDo unit (ops.StoreInd place) state = Unit {0}

@@ -8,7 +8,7 @@ use Rattle.frame_names.specs.declared.var.Var.TheVariants as vars
 use Rattle.number_spans.specs.declared.span.Span.{Span}
 use Rattle.state_facts.specs.StateFacts.{State}
 use Rattle.state_facts.specs.States.{push}
-use Rattle.state_facts.specs.UnknownValues.{push_unknown, push_within}
+use Rattle.state_facts.specs.UnknownValues.{push_unknown, push_unknown_address, push_within}
 use Rattle.transfer_rules.specs.Entry.{no_variables, with_unknown}
 use Rattle.unit_flow.specs.Flow.{kinds_at}
 use Rattle.unit_flow.specs.declared.unit_flow.UnitFlow.{UnitFlow}
@@ -25,6 +25,8 @@ push_of_kind kinds.Ints state = push_unknown places.Ints state
 push_of_kind kinds.Bools state = push_unknown places.Bools state
 push_of_kind kinds.NullRef state = push (vars.Reference 0) state
 push_of_kind kinds.Text state = push vars.Text state
+push_of_kind kinds.AddrInts state = push_unknown_address places.Ints state
+push_of_kind kinds.AddrBools state = push_unknown_address places.Bools state
 
 abbrev pub with_stack : List Kind → State → State
 with_stack [] state = state

@@ -7,6 +7,7 @@ ghost use Rattle.transfer_rules.specs.Acts as rule;
 ghost use Rattle.transfer_rules.specs.Operands.{on_condition};
 ghost use Rattle.transfer_rules.specs.Owed.{CanCallBy, CanDo, IsReady};
 
+use crate::addresses::{load_through, push_address, store_through};
 use crate::arrays::{load_item, make_array, push_length, store_item};
 use crate::calls::{pass_callee, pass_return};
 use crate::moves::{duplicate, load, store};
@@ -44,6 +45,20 @@ fn type_of(types: &[Place], n: u16) -> Place
         Some(place) => *place,
         None => Place::Void,
     }
+}
+
+/// The type of an argument: void where there is none.
+fn arg_type(unit: &Unit, n: u16) -> Place
+    ensures { result ≡ rule.type_of unit.now.args n }
+{
+    type_of(unit.args.as_slice(), n)
+}
+
+/// The type of a local: void where there is none.
+fn local_type(unit: &Unit, n: u16) -> Place
+    ensures { result ≡ rule.type_of unit.now.locals n }
+{
+    type_of(unit.locals.as_slice(), n)
 }
 
 /// Takes the condition of an Assume, which is assumed to be another number than 0.
@@ -137,17 +152,9 @@ pub(crate) fn act(alloc: Global, state: &mut AbsState, unit: &Unit, op: &Op) -> 
     match op {
         Op::Nop | Op::ConvI4 => Ok(()),
         Op::LoadArg(n) => load(state, arg_place(unit, *n)),
-        Op::StoreArg(n) => store(
-            state,
-            arg_place(unit, *n),
-            type_of(unit.args.as_slice(), *n),
-        ),
+        Op::StoreArg(n) => store(state, arg_place(unit, *n), arg_type(unit, *n)),
         Op::LoadLocal(n) => load(state, local_place(unit, *n)),
-        Op::StoreLocal(n) => store(
-            state,
-            local_place(unit, *n),
-            type_of(unit.locals.as_slice(), *n),
-        ),
+        Op::StoreLocal(n) => store(state, local_place(unit, *n), local_type(unit, *n)),
         Op::Null => state.push(Var::Reference(0)),
         Op::Const(n) => state.push(Var::Number(constant(i64::from(*n)))),
         Op::Text(_) => state.push(Var::Text),
@@ -163,5 +170,8 @@ pub(crate) fn act(alloc: Global, state: &mut AbsState, unit: &Unit, op: &Op) -> 
         Op::Length => push_length(state),
         Op::LoadElem(_) => load_item(state),
         Op::StoreElem(_) => store_item(state),
+        Op::LoadAddr(_) => push_address(state),
+        Op::LoadInd(_) => load_through(state),
+        Op::StoreInd(_) => store_through(state),
     }
 }

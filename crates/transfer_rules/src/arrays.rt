@@ -19,7 +19,7 @@ pub(crate) fn make_array(state: &mut AbsState, number: u32) -> Result<(), NoMemo
 {
     match (array_place(number), take(state)?) {
         (Some(place), Some(Var::Number(length))) => state.new_array(place, length),
-        (Some(_), Some(Var::Reference(_) | Var::Text) | None) | (None, _) => {
+        (Some(_), Some(Var::Reference(_) | Var::Text | Var::Address(..)) | None) | (None, _) => {
             refuse(state);
             Ok(())
         }

@@ -101,6 +101,9 @@ pub(crate) fn choose(state: &mut AbsState, op: &Op, way: u32) -> Result<(), NoMe
         | Op::NewArray(_)
         | Op::Length
         | Op::LoadElem(_)
-        | Op::StoreElem(_) => Ok(()),
+        | Op::StoreElem(_)
+        | Op::LoadAddr(_)
+        | Op::LoadInd(_)
+        | Op::StoreInd(_) => Ok(()),
     }
 }

@@ -32,6 +32,14 @@ fn is_null_or(state: &AbsState, place: Place, r: u32) -> bool
     r == 0 || state.place(r) == place
 }
 
+/// Returns whether a reference is one to arrays of this type, which null is not.
+fn is_one_of(state: &AbsState, place: Place, r: u32) -> bool
+    requires reached { IsSome state.now }
+    ensures { ForSome state.now (λ known. result ≡ test.is_one_of place r known) }
+{
+    r != 0 && state.place(r) == place
+}
+
 /// Returns whether what a variable has fits a kind.
 fn fits_kind(state: &AbsState, kind: Kind, value: Var) -> bool
     requires reached { IsSome state.now }
@@ -42,6 +50,8 @@ fn fits_kind(state: &AbsState, kind: Kind, value: Var) -> bool
         (Kind::Ints, Var::Reference(r)) => is_null_or(state, Place::Ints, r),
         (Kind::Bools, Var::Reference(r)) => is_null_or(state, Place::Bools, r),
         (Kind::NullRef, Var::Reference(r)) => r == 0,
+        (Kind::AddrInts, Var::Address(r, _)) => is_one_of(state, Place::Ints, r),
+        (Kind::AddrBools, Var::Address(r, _)) => is_one_of(state, Place::Bools, r),
         _ => false,
     }
 }

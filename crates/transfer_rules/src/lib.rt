@@ -4,6 +4,7 @@
 #![tactic(auto)]
 
 mod acts;
+mod addresses;
 mod arrays;
 mod calls;
 mod choices;

@@ -28,7 +28,8 @@ fn calculate(state: &mut AbsState, op: BinOp, a: Var, b: Var) -> Result<(), NoMe
     }
     match (a, b) {
         (Var::Number(a), Var::Number(b)) => state.arith(op, a, b),
-        (Var::Number(_), Var::Reference(_) | Var::Text) | (Var::Reference(_) | Var::Text, _) => {
+        (Var::Number(_), Var::Reference(_) | Var::Text | Var::Address(..))
+        | (Var::Reference(_) | Var::Text | Var::Address(..), _) => {
             refuse(state);
             Ok(())
         }

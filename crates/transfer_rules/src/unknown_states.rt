@@ -31,6 +31,8 @@ fn push_of_kind(state: &mut AbsState, kind: Kind) -> Result<(), NoMemory>
         Kind::Bools => state.push_unknown(Place::Bools),
         Kind::NullRef => state.push(Var::Reference(0)),
         Kind::Text => state.push(Var::Text),
+        Kind::AddrInts => state.push_unknown_address(Place::Ints),
+        Kind::AddrBools => state.push_unknown_address(Place::Bools),
     }
 }
 

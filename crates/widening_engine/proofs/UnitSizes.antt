@@ -8,7 +8,7 @@ use Rattle.byteorder.specs.Endian.{little_bytes}
 use Rattle.cil_model.proofs.Rows.{Makes, row, rows, rows_up_to}
 use Rattle.cil_model.specs.Blocks.{branch_targets}
 use Rattle.cil_model.specs.Code.{CodeFrom}
-use Rattle.cil_model.specs.Opcodes.{Form, variable_form, constant_form, test_of, branch_form, operator_of, object_form, short_form, long_form, near, far, operator_form, target}
+use Rattle.cil_model.specs.Opcodes.{Form, variable_form, constant_form, test_of, branch_form, address_form, operator_of, object_form, short_form, long_form, near, far, operator_form, target}
 use Rattle.cil_model.specs.Passes.{successors}
 use Rattle.cil_model.specs.Spells.{SpellsForm, Spells, offset_bytes}
 use Rattle.cil_model.specs.WellFormed.{InOrderOfUse, called_by}
@@ -61,11 +61,18 @@ few_branch : (b : ℕ) → Few (branch_form b)
 unfolding branch_form
 few_branch b = rows_up_to Few b 0x37 _ _ (λ h. few_tests near (test_of (b - 0x2b)) (λ t. one 1)) (λ h. few_tests far (test_of (b - 0x38)) (λ t. one 4))
 
+few_address : (b : ℕ) → Few (address_form b)
+unfolding address_form
+few_address b =
+    row Few b 0x47 _ _ (λ e. none 0) (row Few b 0x4a _ _ (λ e. none 0)
+    (row Few b 0x52 _ _ (λ e. none 0) (row Few b 0x54 _ _ (λ e. none 0) tt)))
+
 few_object : (b : ℕ) → Few (object_form b)
 unfolding object_form
 few_object b =
     row Few b 0x65 _ _ (λ e. none 0) (row Few b 0x66 _ _ (λ e. none 0) (row Few b 0x69 _ _ (λ e. none 0) (row Few b 0x72 _ _ (λ e. none 4) (row Few b 0x8d _ _ (λ e. none 4)
-    (row Few b 0x8e _ _ (λ e. none 0) (row Few b 0x91 _ _ (λ e. none 0) (row Few b 0x94 _ _ (λ e. none 0) (row Few b 0x9c _ _ (λ e. none 0) (row Few b 0x9e _ _ (λ e. none 0) tt)))))))))
+    (row Few b 0x8e _ _ (λ e. none 0) (row Few b 0x8f _ _ (λ e. none 4) (row Few b 0x91 _ _ (λ e. none 0)
+    (row Few b 0x94 _ _ (λ e. none 0) (row Few b 0x9c _ _ (λ e. none 0) (row Few b 0x9e _ _ (λ e. none 0) tt))))))))))
 
 few_operator : (operator : Option BinOp) → Few (option_map operator_form operator)
 few_operator None = tt
@@ -75,7 +82,8 @@ few_short : (b : ℕ) → Few (short_form b)
 unfolding short_form
 few_short b =
     rows_up_to Few b 0x14 _ _ (λ h. few_variable b) (λ h. rows_up_to Few b 0x2a _ _ (λ h. few_constant b) (λ h. rows_up_to Few b 0x44 _ _ (λ h. few_branch b)
-    (λ h. rows Few b 0x65 0x9e _ _ (λ l h. few_object b) (few_operator (operator_of b)))))
+    (λ h. rows_up_to Few b 0x54 _ _ (λ h. few_address b)
+    (λ h. rows Few b 0x65 0x9e _ _ (λ l h. few_object b) (few_operator (operator_of b))))))
 
 few_long : (b : ℕ) → Few (long_form b)
 unfolding long_form

@@ -1,9 +1,9 @@
 -- What is known behind an operation holds where the machine goes on by it.
 use Rattle.std.proofs.Common.{◌≡◌, ℕ, zero, suc, ◌+◌, ◌<◌, ℤ, pos, negsuc, ◌-ℤ◌, neg_ℤ, Bool, true, false, int_eq, int_le, int_lt, Option, Some, None, List, [], ◌∷◌, ◌++◌, length, get_or, Ok, Err, refl, sym, ap, subst, ◌∙◌, FitsSigned, w32, arith, length-append, inl, inr}
-use Rattle.std.specs.Prelude.{Result, replicate, reverse, set, slice_get, unsigned_abs}
+use Rattle.std.specs.Prelude.{Result, if◌then◌else◌, nat_lt, replicate, reverse, set, slice_get, unsigned_abs}
 use Rattle.std.specs.List.{AllByRecursion}
 use Rattle.std.specs.Option.{option_map}
-use Rattle.std.proofs.lemmas.Bool.{cond_both, false≢true}
+use Rattle.std.proofs.lemmas.Bool.{cond_both, false≢true, ltb-true}
 use Rattle.std.proofs.lemmas.Bool.Decides.{Decides-int_eq}
 use Rattle.std.proofs.lemmas.Int.{ints, int_wrap_fits}
 use Rattle.std.proofs.lemmas.List.{length-replicate}
@@ -30,7 +30,7 @@ use Rattle.cil_model.specs.declared.machine.FaultKind.{FaultKind}
 use Rattle.cil_model.specs.declared.machine.FaultKind.TheVariants as faults
 use Rattle.cil_model.specs.declared.machine.Frame.{Frame}
 use Rattle.cil_model.specs.declared.machine.Value.{Value}
-use Rattle.cil_model.specs.declared.machine.Value.TheVariants.{Int, Native, Null, Array, Text}
+use Rattle.cil_model.specs.declared.machine.Value.TheVariants.{Int, Native, Null, Array, Addr, Text}
 use Rattle.cil_model.specs.declared.place.Place.{Place}
 use Rattle.cil_model.specs.declared.unit.Unit.{Unit as MethodUnit}
 use Rattle.cil_model.specs.declared.unit_numbers.UnitCall.{UnitCall}
@@ -54,8 +54,9 @@ use Rattle.state_facts.proofs.StoresHold.{load_keeps, store_keeps}
 use Rattle.state_obligations.proofs.ConditionLaws.{met_is_kept}
 use Rattle.state_obligations.specs.declared.condition.Condition.TheVariants as conditions
 use Rattle.symbolic_values.specs.Worth.{worth}
-use Rattle.transfer_rules.specs.Acts.{acted, arg_place, behind_call, behind_test, calculated, complemented, duplicated, left, loaded, local_place, negated, operated, put_into, stored, taken_from, type_of, with_condition, with_item_of, with_item_put, with_length, with_new}
+use Rattle.transfer_rules.specs.Acts.{acted, arg_place, behind_call, behind_test, calculated, complemented, duplicated, left, loaded, local_place, negated, operated, put_into, stored, taken_from, type_of, with_address, with_condition, with_item_at, with_item_of, with_item_put, with_length, with_new, with_put_at}
 use Rattle.transfer_rules.specs.Operands.{on_condition, on_one, on_three, on_two}
+use Rattle.transfer_rules.specs.Laws.Items as accesses
 use Rattle.transfer_rules.specs.Laws.Moves.{constant_is, constant_of, for_some, from_popped, into_holds, is_stored, length_is, result_holds, same_on, taken_is, type_found}
 use Rattle.transfer_rules.specs.Laws.Tops.{HasSizes, IsNumberOf, arg_at, arg_put, as_number, as_reference, has_at, has_sizes, has_top, local_at, local_put, on_one_over, on_three_over, on_two_over, over, over_pushed, place_below, top_as, var_below}
 
@@ -362,6 +363,7 @@ module _ (unit : MethodUnit) (known : StateFacts) (f : Frame) (form : HasForm kn
       as_int (vars.Number e) is = is
       as_int (vars.Reference r) is = absurd (none-some (array r) is)
       as_int vars.Text is = absurd cc
+      as_int (vars.Address r e) is = absurd (none-some (array r, worth number e) is)
   converted_so (Int n ∷ rest) holds has = same_so (Some known) (i.at + i.size) (Int n ∷ rest) holds has
   converted_so _ holds has = elim has [ ]
 
@@ -486,32 +488,7 @@ module _ (unit : MethodUnit) (known : StateFacts) (f : Frame) (form : HasForm kn
   item_so n a rest cell None holds above at item_is has = elim has [ ]
   item_so n a rest cell (Some item) holds above at item_is has =
       top_so (on_two with_item_of known) (Int item) rest heap
-      (on_two_over (λ (s : State). HoldsOn (Some known) s (over f rest ++ Int item ∷ []) heap number array)
-      with_item_of known f (Int n) (Array a) rest heap number array form holds
-      (λ upper lower.
-      let below = popped (popped known) in
-      let one = as_reference below lower.var (Array a) (Some a) number array lower.there lower.has refl in
-      let index = as_number below upper.var (Int n) n number array (var_below (popped known) upper.var upper.there)
-      upper.has refl in
-      let state = with_item_of lower.var upper.var below in
-      from_popped known state (over f rest ++ Int item ∷ []) heap number array
-      (from_popped (popped known) state (over f rest ++ Int item ∷ []) heap number array
-      (rw (one.is, index.is)
-      (subst (λ (m : ℤ). HoldsOn (Some below) (with_item one.reference index.expr below) (over f rest ++ Int m ∷ [])
-      heap number array) (got_there cell.items (unsigned_abs n) item item_is)
-      (load_keeps one.reference index.expr (Some below) (for_some HasForm below lower.form)
-      (for_some (λ (x : StateFacts). HasReference x one.reference) below one.there)
-      (over f rest) heap number array a cell (unsigned_abs n) lower.rest is_heap (record {
-        array_is = one.array_is;
-        cell_is = at;
-        index_is = index.worth_is ∙ above;
-        below = place_below cell.items (unsigned_abs n) item item_is;
-      }))))))) has
-    where
-      got_there : (xs : List ℤ) (k : ℕ) (x : ℤ) → slice_get xs k ≡ Some x → get_or xs k (pos 0) ≡ x
-      got_there [] k x is = absurd (none-some x is)
-      got_there (y ∷ xs) zero x is = same_Some y x is
-      got_there (y ∷ xs) (suc k) x is = got_there xs k x is
+      (accesses.item_loaded f heap is_heap number array known form n a rest cell item holds above at item_is) has
 
   item_loaded : (place : Place) (stack : List Value) → Over stack
       → HasEffect (rows.loads place i f heap stack) (GoesOn g after) → Behind (on_two with_item_of known)
@@ -531,33 +508,8 @@ module _ (unit : MethodUnit) (known : StateFacts) (f : Frame) (form : HasForm kn
       → HasEffect (goes_on i f new rest) (GoesOn g after) → Behind (on_three with_item_put known)
   item_put v n a rest cell new holds fits at above below_length new_is has =
       goes_so f (on_three with_item_put known) (i.at + i.size) rest new
-      (on_three_over (λ (s : State). HoldsOn (Some known) s (over f rest) new number array) with_item_put known f
-      (Int v) (Int n) (Array a) rest heap number array form holds
-      (λ upper middle lower.
-      let below = popped (popped (popped known)) in
-      let one = as_reference below lower.var (Array a) (Some a) number array lower.there lower.has refl in
-      let index = as_number below middle.var (Int n) n number array
-      (var_below (popped (popped known)) middle.var middle.there) middle.has refl in
-      let value = as_number below upper.var (Int v) v number array
-      (var_below (popped (popped known)) upper.var (var_below (popped known) upper.var upper.there)) upper.has refl in
-      let state = with_item_put lower.var middle.var upper.var below in
-      from_popped known state (over f rest) new number array
-      (from_popped (popped known) state (over f rest) new number array
-      (from_popped (popped (popped known)) state (over f rest) new number array
-      (rw (one.is, index.is, value.is)
-      (subst (λ (h : Heap). HoldsOn (Some below) (with_stored one.reference index.expr value.expr below) (over f rest) h
-      number array)
-      (ap (λ (m : ℤ). rows.with_item heap a cell (unsigned_abs n) (rows.item_of cell.place m)) value.worth_is ∙ new_is)
-      (store_keeps one.reference index.expr value.expr (Some below) (for_some HasForm below lower.form)
-      (for_some (λ (x : StateFacts). HasReference x one.reference) below one.there)
-      (for_some (λ (x : StateFacts). HasNumber x index.expr) below index.there)
-      (for_some (λ (x : StateFacts). HasNumber x value.expr) below value.there)
-      (over f rest) heap number array a cell (unsigned_abs n) lower.rest is_heap (record {
-        array_is = one.array_is;
-        cell_is = at;
-        index_is = index.worth_is ∙ above;
-        below = below_length;
-      }) (subst (FitsSigned w32) (sym value.worth_is) fits)))))))) has
+      (accesses.item_stored f heap is_heap number array known form v n a rest cell new holds fits at above below_length
+      new_is) has
 
   -- A number as it is stored in an array of the place that the instruction names.
   same_item : (cell : ArrayCell) (place : Place) (v : ℤ) → same_place cell.place place ≡ true
@@ -578,6 +530,65 @@ module _ (unit : MethodUnit) (known : StateFacts) (f : Frame) (form : HasForm kn
       item_put v n a rest cell new holds are.0 at done.index_is done.below
       (ap (rows.with_item heap a cell (unsigned_abs n)) (same_item cell place v same)) done.goes) has
   item_stored place _ holds are has = elim has [ ]
+
+  -- ---- addresses
+
+  address_so : (place : Place) (stack : List Value) → Over stack
+      → HasEffect (rows.addresses place i f heap stack) (GoesOn g after) → Behind (on_two with_address known)
+  address_so place (Int n ∷ Null ∷ rest) holds has = elim has [ inl same ↦ absurd cc | inr none ↦ elim none [ ] ]
+  address_so place (Int n ∷ Array a ∷ rest) holds has =
+      of_place_so place (slice_get heap a)
+      (λ cell. rows.at_index cell n (goes_on i f heap (Addr a (unsigned_abs n) ∷ rest))) (on_two with_address known)
+      (λ cell same at goes.
+      let done = at_index_so cell n (goes_on i f heap (Addr a (unsigned_abs n) ∷ rest)) goes in
+      top_so (on_two with_address known) (Addr a (unsigned_abs n)) rest heap
+      (accesses.address_taken f heap is_heap number array known form n a rest holds done.index_is) done.goes) has
+  address_so place _ holds has = elim has [ ]
+
+  address_taken : (o : Option Place) (stack : List Value) → Over stack
+      → HasEffect (rows.takes_address o i f heap stack) (GoesOn g after) → Behind (on_two with_address known)
+  address_taken None stack holds has = elim has [ ]
+  address_taken (Some place) stack holds has = address_so place stack holds has
+
+  item_at_so : (a n : ℕ) (rest : List Value) (cell : ArrayCell) (o : Option ℤ) → Over (Addr a n ∷ rest)
+      → slice_get heap a ≡ Some cell → slice_get cell.items n ≡ o
+      → HasEffect (rows.pushes i f heap rest (option_map Int o)) (GoesOn g after) → Behind (on_one with_item_at known)
+  item_at_so a n rest cell None holds at item_is has = elim has [ ]
+  item_at_so a n rest cell (Some item) holds at item_is has =
+      top_so (on_one with_item_at known) (Int item) rest heap
+      (accesses.item_loaded_at f heap is_heap number array known form a n rest cell item holds at item_is) has
+
+  loaded_through : (place : Place) (stack : List Value) → Over stack
+      → HasEffect (rows.loads_through place i f heap stack) (GoesOn g after) → Behind (on_one with_item_at known)
+  loaded_through place (Addr a n ∷ rest) holds has =
+      of_place_so place (slice_get heap a) (λ cell. rows.pushes i f heap rest (option_map Int (slice_get cell.items n)))
+      (on_one with_item_at known)
+      (λ cell same at goes. item_at_so a n rest cell (slice_get cell.items n) holds at refl goes) has
+  loaded_through place _ holds has = elim has [ ]
+
+  put_at_so : (place : Place) (v : ℤ) (a n : ℕ) (rest : List Value) (cell : ArrayCell) → Over (Int v ∷ Addr a n ∷ rest)
+      → FitsSigned w32 v → slice_get heap a ≡ Some cell → same_place cell.place place ≡ true
+      → n < length cell.items
+      → HasEffect (goes_on i f (rows.with_item heap a cell n (rows.item_of place v)) rest) (GoesOn g after)
+      → Behind (on_two with_put_at known)
+  put_at_so place v a n rest cell holds fits at same within goes =
+      let new = rows.with_item heap a cell n (rows.item_of place v) in
+      goes_so f (on_two with_put_at known) (i.at + i.size) rest new
+      (accesses.item_stored_at f heap is_heap number array known form v a n rest cell new holds fits at within
+      (ap (rows.with_item heap a cell n) (same_item cell place v same))) goes
+
+  stored_through : (place : Place) (stack : List Value) → Over stack → AllByRecursion (IsValue heap) stack
+      → HasEffect (rows.stores_through place i f heap stack) (GoesOn g after) → Behind (on_two with_put_at known)
+  stored_through place (Int v ∷ Addr a n ∷ rest) holds are has =
+      of_place_so place (slice_get heap a)
+      (λ cell. if nat_lt n (length cell.items) then
+      goes_on i f (rows.with_item heap a cell n (rows.item_of place v)) rest else []) (on_two with_put_at known)
+      (λ cell same at goes.
+      cond_both (nat_lt n (length cell.items)) _ _
+      (λ (es : List Effect). HasEffect es (GoesOn g after) → Behind (on_two with_put_at known))
+      (λ within on. put_at_so place v a n rest cell holds are.0 at same (ltb-true n (length cell.items) within) on)
+      (λ beyond none. elim none [ ]) goes) has
+  stored_through place _ holds are has = elim has [ ]
 
   -- ---- Assert and Assume
 
@@ -710,6 +721,9 @@ module _ (unit : MethodUnit) (known : StateFacts) (f : Frame) (form : HasForm kn
   acted_so ops.Length holds are has = length_so f.stack holds has
   acted_so (ops.LoadElem place) holds are has = item_loaded place f.stack holds has
   acted_so (ops.StoreElem place) holds are has = item_stored place f.stack holds are has
+  acted_so (ops.LoadAddr type) holds are has = address_taken (array_place type) f.stack holds has
+  acted_so (ops.LoadInd place) holds are has = loaded_through place f.stack holds has
+  acted_so (ops.StoreInd place) holds are has = stored_through place f.stack holds are has
 
 -- What is known behind an instruction holds where it goes on, by a choice that is as before for what was there.
 pub act_keeps : (unit : MethodUnit) (i : Instr) (p q : Point) (known : StateFacts) (number : ℕ → ℤ)

@@ -1,5 +1,5 @@
 -- Where the kinds before a call of a method fit, the method may be called, and those after the call fit behind it.
-use Rattle.std.proofs.Common.{◌≡◌, ℕ, zero, suc, ◌+◌, ◌-◌, ◌≤◌, true, List, [], ◌∷◌, ◌++◌, length, map, take, drop, slice_get, Option, Some, None, refl, sym, ap, subst, ◌∙◌, append_assoc, append-nil, arith}
+use Rattle.std.proofs.Common.{◌≡◌, ℕ, zero, suc, ◌+◌, ◌-◌, ◌≤◌, true, false, List, [], ◌∷◌, ◌++◌, length, map, take, drop, slice_get, Option, Some, None, refl, sym, ap, subst, ◌∙◌, append_assoc, append-nil, arith}
 use Rattle.std.specs.Prelude.{reverse}
 use Rattle.std.specs.List.{AllByRecursion}
 use Rattle.std.specs.Option.{option_map, option_map_or}
@@ -14,7 +14,7 @@ use Rattle.cil_model.specs.Values.{same_place}
 use Rattle.cil_model.specs.WellFormed.{IsCallee}
 use Rattle.cil_model.specs.declared.clause.ClauseKind.TheVariants as clause_kinds
 use Rattle.cil_model.specs.declared.place.Kind.{Kind}
-use Rattle.cil_model.specs.declared.place.Kind.TheVariants.{Bools, Int, Ints, NullRef}
+use Rattle.cil_model.specs.declared.place.Kind.TheVariants.{AddrBools, AddrInts, Bools, Int, Ints, NullRef}
 use Rattle.cil_model.specs.declared.place.Place.{Place}
 use Rattle.cil_model.specs.declared.place.Place.TheVariants as places
 use Rattle.cil_model.specs.declared.unit.CalleeInfo.{CalleeInfo}
@@ -104,11 +104,19 @@ of_type : (place : Place) (o : Option Reference) → same_place place place ≡ 
 of_type place None own of = refl
 of_type place (Some r) own of = ap (λ (p : Place). same_place p place) of ∙ own
 
+array_of_type : (place : Place) (o : Option Reference) → same_place place place ≡ true
+    → option_map (λ (r : Reference). r.place) o ≡ Some place
+    → option_map_or (λ (r : Reference). same_place r.place place) o false ≡ true
+array_of_type place None own of = absurd (none-some place of)
+array_of_type place (Some r) own of = ap (λ (p : Place). same_place p place) (same_Some r.place place of) ∙ own
+
 kind_given : (known : StateFacts) (kind : Kind) (v : Var) → IsOfKind known kind v → FitsKind known kind v
 kind_given known Int (vars.Number e) of = tt
 kind_given known Ints (vars.Reference r) of = of_type places.Ints (reference_at known.references r) refl of
 kind_given known Bools (vars.Reference r) of = of_type places.Bools (reference_at known.references r) refl of
 kind_given known NullRef (vars.Reference r) of = of
+kind_given known AddrInts (vars.Address r e) of = array_of_type places.Ints (reference_at known.references r) refl of
+kind_given known AddrBools (vars.Address r e) of = array_of_type places.Bools (reference_at known.references r) refl of
 kind_given known _ _ of = elim of [ ]
 
 -- Where nothing is reached, any callee may be called.

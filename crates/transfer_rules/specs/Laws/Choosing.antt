@@ -97,17 +97,13 @@ module _ (known : StateFacts) (form : HasForm known) (vs : List Value) (heap : H
       → compares_values comparisons.NeUn value (Int (pos 0)) ≡ Some so
   true_number (Int m) n so is holds = holds
   true_number (Native m) n so is holds = ap (λ (b : Bool). Some (not b)) (none_same m) ∙ holds
-  true_number Null n so is holds = absurd (none-some n is)
-  true_number (Array i) n so is holds = absurd (none-some n is)
-  true_number Text n so is holds = absurd (none-some n is)
+  true_number _ n so is holds = absurd (none-some n is)
 
   true_reference : (value : Value) (a : Option ℕ) (so : Bool) → reference_of value ≡ Some a → is_true value ≡ Some so
       → compares_values comparisons.NeUn value Null ≡ Some so
   true_reference Null a so is holds = holds
   true_reference (Array i) a so is holds = holds
-  true_reference (Int m) a so is holds = absurd (none-some a is)
-  true_reference (Native m) a so is holds = absurd (none-some a is)
-  true_reference Text a so is holds = absurd (none-some a is)
+  true_reference _ a so is holds = absurd (none-some a is)
 
   -- Whether a value is true.
   truth_stands : (v : Var) (so : Bool) (value : Value) → HasVar known v → HasValue number array v value
@@ -119,6 +115,7 @@ module _ (known : StateFacts) (form : HasForm known) (vs : List Value) (heap : H
       comparison_stands comparisons.NeUn (vars.Reference r) (vars.Reference 0) so value Null there (omega arith) has
       (ap (λ (a : Option ℕ). Some a) (sym holds.null)) is tt (true_reference value (array r) so has true_is)
   truth_stands vars.Text so value there has is true_is = holds
+  truth_stands (vars.Address r i) so value there has is true_is = holds
 
 -- ---- one instruction
 
@@ -256,6 +253,7 @@ module _ (known : StateFacts) (form : HasForm known) where
   truth_follows so (vars.Reference r) there =
       comparison_follows comparisons.NeUn (vars.Reference r) (vars.Reference 0) so known form tt tt
   truth_follows so vars.Text there = stays_itself known form
+  truth_follows so (vars.Address r i) there = stays_itself known form
 
   one_follows : (rule : Var → StateFacts → State) (o : Option Var)
       → ((v : Var) → HasVar known v → StaysThereIn known (rule v known)) → IfThere (HasVar known) o
@@ -277,8 +275,7 @@ module _ (known : StateFacts) (form : HasForm known) where
       there.there (omega arith))
       (λ behind. comparison_follows comparisons.LtUn (vars.Number e) (vars.Number (constant (pos count))) false known
       form there.there (omega arith))
-  case_follows count way (vars.Reference r) there = tt
-  case_follows count way vars.Text there = tt
+  case_follows count way _ there = tt
 
   top_there : (above : ℕ) → IfThere (HasVar known) (from_top above known)
   top_there above =

@@ -1,16 +1,16 @@
 -- Variables that fit kinds still do where one comes or goes or changes, and where references stay of their types.
-use Rattle.std.proofs.Common.{◌≡◌, ℕ, zero, suc, ◌-◌, ◌≤◌, Bool, true, List, [], ◌∷◌, ◌++◌, length, take, map, slice_get, Option, Some, None, refl, sym, ap, subst, ◌∙◌, append_assoc, arith}
+use Rattle.std.proofs.Common.{◌≡◌, ℕ, zero, suc, ◌-◌, ◌≤◌, true, false, List, [], ◌∷◌, ◌++◌, length, take, map, slice_get, Option, Some, None, refl, sym, ap, subst, ◌∙◌, append_assoc, arith}
 use Rattle.std.specs.Prelude.{reverse, set}
 use Rattle.std.specs.List.{AllByRecursion}
-use Rattle.std.specs.Option.{option_map_or}
+use Rattle.std.specs.Option.{option_map}
 use Rattle.std.proofs.lemmas.List.{reverse-append}
 use Rattle.std.proofs.lemmas.Option.{none-some, same_Some}
-use Rattle.cil_model.specs.Values.{same_place}
 use Rattle.cil_model.specs.declared.place.Kind.{Kind}
 use Rattle.cil_model.specs.declared.place.Kind.TheVariants as kinds
 use Rattle.cil_model.specs.declared.place.Place.{Place}
 use Rattle.cil_model.specs.declared.place.Place.TheVariants as places
 use Rattle.cil_model.specs.declared.unit.Unit.{Unit as MethodUnit}
+use Rattle.clause_trees.specs.VariableKinds.{place_in}
 use Rattle.domain_api.specs.declared.expr.Expr.{Expr}
 use Rattle.frame_names.specs.declared.reference.Reference.{Reference}
 use Rattle.frame_names.specs.declared.var.Var.{Var}
@@ -22,49 +22,48 @@ use Rattle.state_facts.specs.Forms.{HasVar}
 use Rattle.state_facts.specs.Moves.{popped, pushed}
 use Rattle.state_facts.specs.StateFacts.{StateFacts, State, reference_at}
 use Rattle.state_obligations.specs.Following.{StaysThere, shape_of}
-use Rattle.transfer_rules.specs.Forms.{FitKinds, FitsKind, FitsStack, HasKinds, is_of_place, kind_in, kinds_over}
+use Rattle.transfer_rules.specs.Forms.{FitKinds, FitsKind, FitsStack, HasKinds, kind_in, kinds_over}
+use Rattle.transfer_rules.specs.Laws.KindForms.{same_reference}
 use Rattle.transfer_rules.specs.Operands.{Rule, on_one, on_two, on_three, with_one}
 
 -- ---- references that stay
 
 -- Each reference that was there is of its type still.
 abbrev pub PlacesStay : StateFacts → StateFacts → Type 0
-PlacesStay before after =
-    (place : Place) (r : ℕ) → r ≤ length before.references → is_of_place before place r ≡ true
-    → is_of_place after place r ≡ true
+PlacesStay before after = (r : ℕ) → r ≤ length before.references → place_in after r ≡ place_in before r
 
-abbrev of_place : Place → Option Reference → Bool
-of_place place found = option_map_or (λ reference. same_place reference.place place) found true
+abbrev type_of : Option Reference → Option Place
+type_of found = option_map (λ reference. reference.place) found
 
 pub places_same : (before after : StateFacts) → after.references ≡ before.references → PlacesStay before after
-places_same before after same = λ place r there is.
-    subst (λ references. of_place place (reference_at references r) ≡ true) (sym same) is
+places_same before after same = λ r there. ap (λ references. type_of (reference_at references r)) same
 
-shaped : (xs ys : List Reference) (i : ℕ) (place : Place) → map shape_of ys ≡ map shape_of xs
-    → of_place place (slice_get xs i) ≡ true → of_place place (slice_get ys i) ≡ true
-shaped xs [] i place same is = refl
-shaped [] (y ∷ ys) i place same is = absurd cc
-shaped (x ∷ xs) (y ∷ ys) zero place same is = subst (λ p. same_place p place ≡ true) (sym head) is
+shaped : (xs ys : List Reference) (i : ℕ) → map shape_of ys ≡ map shape_of xs
+    → type_of (slice_get ys i) ≡ type_of (slice_get xs i)
+shaped [] [] i same = refl
+shaped [] (y ∷ ys) i same = absurd cc
+shaped (x ∷ xs) [] i same = absurd cc
+shaped (x ∷ xs) (y ∷ ys) zero same = ap Some head
   where
     both : shape_of y ≡ shape_of x
     both = cc
 
     head : y.place ≡ x.place
     head = ap (λ (p : Place × Expr). p.0) both
-shaped (x ∷ xs) (y ∷ ys) (suc i) place same is = shaped xs ys i place tail is
+shaped (x ∷ xs) (y ∷ ys) (suc i) same = shaped xs ys i tail
   where
     tail : map shape_of ys ≡ map shape_of xs
     tail = cc
 
-shape_stays : (xs ys : List Reference) (r : ℕ) (place : Place) → map shape_of ys ≡ map shape_of xs
-    → of_place place (reference_at xs r) ≡ true → of_place place (reference_at ys r) ≡ true
+shape_stays : (xs ys : List Reference) (r : ℕ) → map shape_of ys ≡ map shape_of xs
+    → type_of (reference_at ys r) ≡ type_of (reference_at xs r)
 unfolding reference_at
-shape_stays xs ys zero place same is = refl
-shape_stays xs ys (suc r) place same is = shaped xs ys r place same is
+shape_stays xs ys zero same = refl
+shape_stays xs ys (suc r) same = shaped xs ys r same
 
 pub places_shaped : (before after : StateFacts) → map shape_of after.references ≡ map shape_of before.references
     → PlacesStay before after
-places_shaped before after same = λ place r there is. shape_stays before.references after.references r place same is
+places_shaped before after same = λ r there. shape_stays before.references after.references r same
 
 longer : (xs more : List Reference) (r : ℕ) → r ≤ length xs → reference_at (xs ++ more) r ≡ reference_at xs r
 unfolding reference_at
@@ -76,9 +75,9 @@ longer (x ∷ xs) more (suc (suc r)) there = longer xs more (suc r) (omega (arit
 pub places_more : (before after : StateFacts) (more : List Reference)
     → after.references ≡ before.references ++ more
     → PlacesStay before after
-places_more before after more same = λ place r there is.
-    subst (λ references. of_place place (reference_at references r) ≡ true) (sym same)
-    (subst (λ o. of_place place o ≡ true) (sym (longer before.references more r there)) is)
+places_more before after more same = λ r there.
+    ap (λ references. type_of (reference_at references r)) same
+    ∙ ap type_of (longer before.references more r there)
 
 -- ---- variables that stay
 
@@ -87,10 +86,16 @@ pub kind_stays : (before after : StateFacts) (kind : Kind) (v : Var) → PlacesS
     → FitsKind after kind v
 kind_stays before after kinds.Int (vars.Number e) stay there fits = tt
 kind_stays before after kinds.Native (vars.Number e) stay there fits = tt
-kind_stays before after kinds.Ints (vars.Reference r) stay there fits = stay places.Ints r there fits
-kind_stays before after kinds.Bools (vars.Reference r) stay there fits = stay places.Bools r there fits
+kind_stays before after kinds.Ints (vars.Reference r) stay there fits =
+    same_reference before after places.Ints true r r (stay r there) fits
+kind_stays before after kinds.Bools (vars.Reference r) stay there fits =
+    same_reference before after places.Bools true r r (stay r there) fits
 kind_stays before after kinds.NullRef (vars.Reference r) stay there fits = fits
 kind_stays before after kinds.Text vars.Text stay there fits = tt
+kind_stays before after kinds.AddrInts (vars.Address r i) stay there fits =
+    same_reference before after places.Ints false r r (stay r there.0) fits
+kind_stays before after kinds.AddrBools (vars.Address r i) stay there fits =
+    same_reference before after places.Bools false r r (stay r there.0) fits
 kind_stays before after _ _ stay there fits = elim fits [ ]
 
 pub fit_stays : (before after : StateFacts) (ks : List Kind) (vs : List Var) → PlacesStay before after
@@ -192,6 +197,9 @@ all_but_last (v ∷ front) top =
 top_of : (front : List Var) (top : Var) → slice_get (reverse (front ++ top ∷ [])) 0 ≡ Some top
 top_of front top = ap (λ l. slice_get l 0) (reverse-append front (top ∷ []))
 
+under_top : (front : List Var) (top : Var) → slice_get (reverse (front ++ top ∷ [])) 1 ≡ slice_get (reverse front) 0
+under_top front top = ap (λ l. slice_get l 1) (reverse-append front (top ∷ []))
+
 -- ---- what is known
 
 abbrev pub AreKinds : List Kind → State → Type 0
@@ -229,6 +237,7 @@ has_pushed ks k v known has there fits =
 pub record HasPopped (ks : List Kind) (k : Kind) (known : StateFacts) : Type 0 where
   pub top : Var
   pub is : from_top 0 known ≡ Some top
+  pub below : from_top 1 known ≡ from_top 0 (popped known)
   pub there : HasVar (popped known) top
   pub fits : FitsKind (popped known) k top
   pub rest : HasKinds ks (popped known)
@@ -245,6 +254,8 @@ has_popped ks k known has =
     record {
       top = ends.top;
       is = ap (λ vs. slice_get (reverse vs) 0) ends.are ∙ top_of ends.front ends.top;
+      below = ap (λ vs. slice_get (reverse vs) 1) ends.are ∙ under_top ends.front ends.top
+          ∙ ap (λ vs. slice_get (reverse vs) 0) (sym left);
       there = there;
       fits = kind_stays known (popped known) k ends.top same there ends.last;
       rest = record {
@@ -307,6 +318,25 @@ module _ (unit : MethodUnit) where
       subst (λ o. FitsStack unit to (with_one rule o (popped known))) (sym top.is)
       (next top.top (record { there = top.there; fits = top.fits }) top.rest)
 
+  -- The two uppermost, which the stack has on top.
+  pub two_tops : (k j : Kind) (stack : List Kind) (to : Option (List Kind)) (rule : Var → Var → Rule)
+      (known : StateFacts)
+      → HasKinds (kinds_over unit (k ∷ j ∷ stack)) known
+      → ((lower upper : Var) (x : StateFacts) → from_top 1 known ≡ Some lower → from_top 0 known ≡ Some upper
+      → IsOperand x j lower → IsOperand x k upper → HasKinds (kinds_over unit stack) x
+      → FitsStack unit to (rule lower upper x))
+      → FitsStack unit to (on_two rule known)
+  two_tops k j stack to rule known has next =
+      let upper = over_popped k (j ∷ stack) known has in
+      let lower = over_popped j stack (popped known) upper.rest in
+      subst (λ o. FitsStack unit to (with_one (λ above. on_one (λ below. rule below above)) o (popped known)))
+      (sym upper.is)
+      (subst (λ o. FitsStack unit to (with_one (λ below. rule below upper.top) o (popped (popped known))))
+      (sym lower.is)
+      (next lower.top upper.top (popped (popped known)) (upper.below ∙ lower.is) upper.is
+      (record { there = lower.there; fits = lower.fits })
+      (operand_popped (popped known) k upper.top (record { there = upper.there; fits = upper.fits })) lower.rest))
+
   pub two_taken : (k j : Kind) (stack : List Kind) (to : Option (List Kind)) (rule : Var → Var → Rule)
       (known : StateFacts)
       → HasKinds (kinds_over unit (k ∷ j ∷ stack)) known
@@ -315,9 +345,8 @@ module _ (unit : MethodUnit) where
       → FitsStack unit to (rule lower upper x))
       → FitsStack unit to (on_two rule known)
   two_taken k j stack to rule known has next =
-      one_taken k (j ∷ stack) to (λ upper. on_one (λ lower. rule lower upper)) known has
-      (λ upper is rest. one_taken j stack to (λ lower. rule lower upper) (popped known) rest
-      (λ lower own last. next lower upper (popped (popped known)) own (operand_popped (popped known) k upper is) last))
+      two_tops k j stack to rule known has
+      (λ lower upper x lower_is upper_is first second last. next lower upper x first second last)
 
   pub three_taken : (k j h : Kind) (stack : List Kind) (to : Option (List Kind)) (rule : Var → Var → Var → Rule)
       (known : StateFacts)

@@ -1,14 +1,14 @@
 -- One more number or array on top, one variable that changes, and what these leave of the kinds that fit.
-use Rattle.std.proofs.Common.{◌≡◌, ℕ, zero, suc, ◌+◌, ℤ, pos, Bool, true, List, [], ◌∷◌, ◌++◌, length, slice_get, Option, Some, None, refl, sym, ap, subst, ◌∙◌, arith}
+use Rattle.std.proofs.Common.{◌≡◌, ℕ, zero, suc, ◌+◌, ℤ, pos, Bool, true, false, List, [], ◌∷◌, ◌++◌, length, slice_get, Option, Some, None, refl, sym, ap, subst, ◌∙◌, arith}
 use Rattle.std.specs.Prelude.{set}
-use Rattle.std.specs.Option.{option_and_then, option_map, option_map_or}
+use Rattle.std.specs.Option.{option_and_then, option_map}
 use Rattle.std.proofs.lemmas.Bool.{false≢true}
 use Rattle.array_contents.specs.Storing.{stored}
-use Rattle.cil_model.specs.Kinds.{is_number}
+use Rattle.cil_model.specs.Kinds.{address_kind, is_number}
 use Rattle.cil_model.specs.Values.{same_place}
 use Rattle.cil_model.specs.declared.instruction.BinOp.{BinOp}
 use Rattle.cil_model.specs.declared.place.Kind.{Kind}
-use Rattle.cil_model.specs.declared.place.Kind.TheVariants.{Bools, Int, Ints, Native, NullRef, Text}
+use Rattle.cil_model.specs.declared.place.Kind.TheVariants.{Int, Native}
 use Rattle.cil_model.specs.declared.place.Place.{Place}
 use Rattle.domain_api.specs.declared.expr.Expr.{Expr}
 use Rattle.frame_names.specs.declared.reference.Reference.{Reference}
@@ -23,11 +23,11 @@ use Rattle.state_facts.specs.Arithmetic.{with_result}
 use Rattle.state_facts.specs.Comparing.{null_known, null_tested, same_known, with_comparison, with_defined, with_known, with_null_known, with_null_test, with_same, with_same_known, with_tested, with_truth}
 use Rattle.state_facts.specs.Comparing as comparing
 use Rattle.state_facts.specs.Forms.{HasForm, HasVar, IsArrayPlace}
-use Rattle.state_facts.specs.Moves.{beside, in_variable, int32_in, item_place, on_top, others, place_at, placed, with_item, with_items, with_number, with_one_of, with_placed, with_put, with_stored, with_written}
+use Rattle.state_facts.specs.Moves.{beside, in_variable, int32_in, item_place, on_top, others, place_at, placed, with_item, with_items, with_number, with_one_of, with_placed, with_put, with_set, with_stored, with_written}
 use Rattle.state_facts.specs.StateFacts.{StateFacts, State, nullness_at, reference_at}
-use Rattle.transfer_rules.specs.Forms.{FitKinds, FitsKind, HasKinds, is_of_place, kind_in}
+use Rattle.transfer_rules.specs.Forms.{FitKinds, FitsKind, HasKinds, kind_in}
 use Rattle.transfer_rules.specs.Laws.Fitting.{AreKinds, fit_pushed, fit_set, fit_stays, kind_stays, places_more, places_same}
-use Rattle.transfer_rules.specs.Laws.KindForms.{AreAlike, array_reference, own_place}
+use Rattle.transfer_rules.specs.Laws.KindForms.{AreAlike, address_of_place, array_reference, is_typed, own_place}
 
 -- ---- numbers on top
 
@@ -83,11 +83,7 @@ comparison_number op (vars.Number a) (vars.Number b) known alike = record {
 }
 comparison_number op (vars.Reference r) (vars.Reference q) known alike =
     tested_number r q (comparing.is_equality op) known (null_tested r q)
-comparison_number op (vars.Number a) (vars.Reference q) known alike = elim alike [ ]
-comparison_number op (vars.Number a) vars.Text known alike = elim alike [ ]
-comparison_number op (vars.Reference r) (vars.Number b) known alike = elim alike [ ]
-comparison_number op (vars.Reference r) vars.Text known alike = elim alike [ ]
-comparison_number op vars.Text w known alike = elim alike [ ]
+comparison_number op _ _ known alike = elim alike [ ]
 
 -- One variable is another, of this kind.
 pub record HasSet (i : ℕ) (k : Kind) (before after : StateFacts) : Type 0 where
@@ -105,10 +101,18 @@ pub any_number : (known after : StateFacts) (k : Kind) (e f : Expr) → FitsKind
     → FitsKind after k (vars.Number f)
 any_number known after Int e f fits = tt
 any_number known after Native e f fits = tt
-any_number known after Ints e f fits = elim fits [ ]
-any_number known after Bools e f fits = elim fits [ ]
-any_number known after NullRef e f fits = elim fits [ ]
-any_number known after Text e f fits = elim fits [ ]
+any_number known after _ e f fits = elim fits [ ]
+
+set_sets : (i : ℕ) (k : Kind) (v : Var) (known : StateFacts) → HasVar known v → FitsKind known k v
+    → Sets i k known (with_set i v known)
+set_sets i k v known there fits =
+    let new = record known { variables = set known.variables i v } in
+    record {
+      var = v;
+      variables = refl;
+      references = refl;
+      fits = kind_stays known new k v (places_same known new refl) there fits;
+    }
 
 pub put_sets : (i : ℕ) (k : Kind) (v : Var) (place : Place) (known : StateFacts) → HasVar known v → FitsKind known k v
     → Sets i k known (with_put i v place known)
@@ -123,22 +127,9 @@ put_sets i k (vars.Number e) place known there fits = by (placed known.facts e p
       references = refl;
       fits = any_number known (in_variable known i made) k e made.expr fits;
     }
-put_sets i k (vars.Reference r) place known there fits =
-    let new = record known { variables = set known.variables i (vars.Reference r) } in
-    record {
-      var = vars.Reference r;
-      variables = refl;
-      references = refl;
-      fits = kind_stays known new k (vars.Reference r) (places_same known new refl) there fits;
-    }
-put_sets i k vars.Text place known there fits =
-    let new = record known { variables = set known.variables i vars.Text } in
-    record {
-      var = vars.Text;
-      variables = refl;
-      references = refl;
-      fits = kind_stays known new k vars.Text (places_same known new refl) there fits;
-    }
+put_sets i k (vars.Reference r) place known there fits = set_sets i k (vars.Reference r) known there fits
+put_sets i k vars.Text place known there fits = set_sets i k vars.Text known there fits
+put_sets i k (vars.Address r e) place known there fits = set_sets i k (vars.Address r e) known there fits
 
 -- What is known of the variables and the references is as before.
 abbrev pub KeepsFrame : StateFacts → State → Type 0
@@ -175,12 +166,16 @@ new_there references r (suc n) is =
     let same : n ≡ length references =
     omega (arith, is) in ap (slice_get (references ++ r ∷ [])) same ∙ new_last references r
 
--- One more reference of an array's type, and it on top.
-pub record HasArrayMore (place : Place) (before after : StateFacts) : Type 0 where
+-- One more reference of an array's type, and this on top.
+pub record HasArrayMore (place : Place) (v : Var) (before after : StateFacts) : Type 0 where
   pub reference : Reference
-  pub variables : after.variables ≡ before.variables ++ vars.Reference (length before.references + 1) ∷ []
+  pub variables : after.variables ≡ before.variables ++ v ∷ []
   pub references : after.references ≡ before.references ++ reference ∷ []
   pub place_is : reference.place ≡ place
+
+-- The number of the next reference.
+abbrev pub next_of : StateFacts → ℕ
+next_of known = length known.references + 1
 
 -- ---- what is known behind them
 
@@ -201,24 +196,40 @@ number_more ks k known (Some after) is has form more = record {
       (number_of_kind after k more.expr is));
 }
 
+new_typed : (place : Place) (other : Bool) (v : Var) (known after : StateFacts) → IsArrayPlace place
+    → HasArrayMore place v known after → is_typed place other (reference_at after.references (next_of known)) ≡ true
+new_typed place other v known after array more =
+    let found : reference_at after.references (next_of known) ≡ Some more.reference =
+    ap (λ rs. reference_at rs (next_of known)) more.references
+    ∙ new_there known.references more.reference (next_of known) (omega arith) in
+    ap (is_typed place other) found ∙ ap (λ p. same_place p place) more.place_is ∙ own_place place array
+
+named_more : (ks : List Kind) (k : Kind) (place : Place) (v : Var) (known after : StateFacts) → HasKinds ks known
+    → HasForm after → HasArrayMore place v known after → FitsKind after k v → HasKinds (ks ++ k ∷ []) after
+named_more ks k place v known after has form more fits = record {
+  form = form;
+  fit = subst (FitKinds after (ks ++ k ∷ [])) (sym more.variables)
+      (fit_pushed after ks known.variables k v
+      (fit_stays known after ks known.variables
+      (places_more known after (more.reference ∷ []) more.references) has.form.variables has.fit) fits);
+}
+
 pub array_more : (ks : List Kind) (place : Place) (known after : StateFacts) → HasKinds ks known → HasForm after
-    → IsArrayPlace place
-    → HasArrayMore place known after → HasKinds (ks ++ kind_in place ∷ []) after
+    → IsArrayPlace place → HasArrayMore place (vars.Reference (next_of known)) known after
+    → HasKinds (ks ++ kind_in place ∷ []) after
 array_more ks place known after has form array more =
-    let r = length known.references + 1 in
-    let found : reference_at after.references r ≡ Some more.reference =
-    ap (λ rs. reference_at rs r) more.references ∙ new_there known.references more.reference r (omega arith) in
-    let of : is_of_place after place r ≡ true =
-    ap (λ o. option_map_or (λ (x : Reference). same_place x.place place) o true) found
-    ∙ ap (λ p. same_place p place) more.place_is ∙ own_place place array in
-    record {
-      form = form;
-      fit = subst (FitKinds after (ks ++ kind_in place ∷ [])) (sym more.variables)
-          (fit_pushed after ks known.variables (kind_in place) (vars.Reference r)
-          (fit_stays known after ks known.variables
-          (places_more known after (more.reference ∷ []) more.references) has.form.variables has.fit)
-          (array_reference after place r array of));
-    }
+    let v = vars.Reference (next_of known) in
+    named_more ks (kind_in place) place v known after has form more
+    (array_reference after place (next_of known) array (new_typed place true v known after array more))
+
+-- Not the reference is on top, but an address in the array.
+pub address_more : (ks : List Kind) (k : Kind) (place : Place) (i : Expr) (known after : StateFacts)
+    → HasKinds ks known → HasForm after → IsArrayPlace place → address_kind place ≡ Some k
+    → HasArrayMore place (vars.Address (next_of known) i) known after → HasKinds (ks ++ k ∷ []) after
+address_more ks k place i known after has form array is more =
+    let v = vars.Address (next_of known) i in
+    named_more ks k place v known after has form more
+    (address_of_place after place k (next_of known) i is (new_typed place false v known after array more))
 
 pub frame_kept : (ks : List Kind) (known : StateFacts) (state : State) → HasKinds ks known → Formed state
     → KeepsFrame known state

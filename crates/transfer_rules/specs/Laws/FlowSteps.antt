@@ -28,13 +28,14 @@ use Rattle.transfer_rules.specs.Acts.{acted}
 use Rattle.transfer_rules.specs.Choices.{chosen}
 use Rattle.transfer_rules.specs.Flow.{AreReady, Fits, along_edge, through}
 use Rattle.transfer_rules.specs.Forms.{FitsStack, HasKinds, kinds_over}
-use Rattle.transfer_rules.specs.Owed.{CanCallBy, CanCallIt, CanDo}
+use Rattle.transfer_rules.specs.Owed.{CanCallBy, CanCallIt, CanDo, IsReady}
 use Rattle.transfer_rules.specs.Post.{along, post}
 use Rattle.transfer_rules.specs.Laws.CalledForms.{IsWithin, can_call_it, found_callee, no_call}
 use Rattle.transfer_rules.specs.Laws.Choosing.{chosen_stays}
 use Rattle.transfer_rules.specs.Laws.FormsBehind.{absorbed_fits, acted_fits, stays_fitting}
 use Rattle.transfer_rules.specs.Laws.FormsMerged.{normal_fits}
 use Rattle.transfer_rules.specs.Laws.PostLaws.{avoided_stays}
+use Rattle.transfer_rules.specs.Laws.Ready.{avoided_ready, chosen_ready}
 use Rattle.transfer_rules.specs.Laws.ReturnForms.{fits_return, none_returns}
 use Rattle.transfer_rules.specs.Laws.StackSizes.{within_stack}
 use Rattle.transfer_rules.specs.Laws.StepsHold.{AreFormed, along_keeps}
@@ -52,13 +53,14 @@ fits_formed unit at None fits = λ x is. absurd (none-some x is)
 fits_formed unit None (Some known) fits = absurd fits
 fits_formed unit (Some stack) (Some known) has = λ x is. subst HasForm (same_Some known x is) has.form
 
--- Rules one after another.
-then_fits : (unit : MethodUnit) (stack : List Kind) (at : Option (List Kind)) (next : StateFacts → State)
-    (state : State) → FitsStack unit (Some stack) state
-    → ((known : StateFacts) → HasKinds (kinds_over unit stack) known → FitsStack unit at (next known))
+-- Rules one after another, of which what is known is ready for the next.
+then_fits : (unit : MethodUnit) (op : Op) (stack : List Kind) (at : Option (List Kind)) (next : StateFacts → State)
+    (state : State) → FitsStack unit (Some stack) state → ForSome state (IsReady op)
+    → ((known : StateFacts) → IsReady op known → HasKinds (kinds_over unit stack) known
+    → FitsStack unit at (next known))
     → FitsStack unit at (option_and_then next state)
-then_fits unit stack at next None fits more = tt
-then_fits unit stack at next (Some known) has more = more known has
+then_fits unit op stack at next None fits ready more = tt
+then_fits unit op stack at next (Some known) has ready more = more known (ready known refl) has
 
 module _ (unit : MethodUnit) (op : Op) (stack after : List Kind) (within : IsWithin unit stack)
     (operand : OperandFits op) (executed : is_executed op ≡ true) (goes : op ≢ ops.Return)
@@ -68,21 +70,27 @@ module _ (unit : MethodUnit) (op : Op) (stack after : List Kind) (within : IsWit
   avoided_fits (Some known) has =
       stays_fitting unit stack known (avoid_all op (Some known)) (avoided_stays op known has.form) has
 
+  ready_behind : (state : State) → FitsStack unit (Some stack) state → ForSome (avoid_all op state) (IsReady op)
+  ready_behind state fits = avoided_ready op state (fits_formed unit (Some stack) state fits)
+
   post_kept : (state : State) → FitsStack unit (Some stack) state → FitsStack unit (Some after) (post unit op state)
   unfolding post
   post_kept state fits =
-      then_fits unit stack (Some after) (acted unit op) (avoid_all op state) (avoided_fits state fits)
-      (λ known has. acted_fits unit op stack after known operand executed goes within typed has)
+      then_fits unit op stack (Some after) (acted unit op) (avoid_all op state) (avoided_fits state fits)
+      (ready_behind state fits)
+      (λ known ready has. acted_fits unit op stack after known operand executed goes within ready typed has)
 
   along_kept : (number : ℕ) (state : State) → FitsStack unit (Some stack) state
       → FitsStack unit (Some after) (along unit op number state)
   unfolding along
   along_kept number state fits =
-      then_fits unit stack (Some after) (acted unit op) (option_and_then (chosen op number) (avoid_all op state))
-      (then_fits unit stack (Some stack) (chosen op number) (avoid_all op state) (avoided_fits state fits)
-      (λ known has. stays_fitting unit stack known (chosen op number known) (chosen_stays op number known has.form)
+      let ready = ready_behind state fits in
+      then_fits unit op stack (Some after) (acted unit op) (option_and_then (chosen op number) (avoid_all op state))
+      (then_fits unit op stack (Some stack) (chosen op number) (avoid_all op state) (avoided_fits state fits) ready
+      (λ known own has. stays_fitting unit stack known (chosen op number known) (chosen_stays op number known has.form)
       has))
-      (λ known has. acted_fits unit op stack after known operand executed goes within typed has)
+      (chosen_ready op number (avoid_all op state) ready)
+      (λ known ready has. acted_fits unit op stack after known operand executed goes within ready typed has)
 
 -- Where nothing is reached before, nothing is after.
 none_behind : (unit : MethodUnit) (op : Op) → post unit op None ≡ None

@@ -10,7 +10,7 @@ use Rattle.cil_model.specs.Bodies.{is_executed, is_executed_call}
 use Rattle.cil_model.specs.Comparisons.{comparison_of}
 use Rattle.cil_model.specs.FitKinds.{OperandFits}
 use Rattle.cil_model.specs.Kinds as kinds
-use Rattle.cil_model.specs.Kinds.{is_array_of, is_number, is_reference, is_tested, kind_of, takes, when}
+use Rattle.cil_model.specs.Kinds.{address_kind, is_address_of, is_array_of, is_number, is_reference, is_tested, kind_of, takes, when}
 use Rattle.cil_model.specs.Passes.{merged, merged_kind, with_kind}
 use Rattle.cil_model.specs.Shapes.{shape_of}
 use Rattle.cil_model.specs.UnitCalls.{array_place, unit_call}
@@ -22,7 +22,7 @@ use Rattle.cil_model.specs.declared.instruction.Op.TheVariants as ops
 use Rattle.cil_model.specs.declared.instruction.Test.{Test}
 use Rattle.cil_model.specs.declared.instruction.Test.TheVariants as tests
 use Rattle.cil_model.specs.declared.place.Kind.{Kind}
-use Rattle.cil_model.specs.declared.place.Kind.TheVariants.{Bools, Int, Ints, Native, NullRef, Text}
+use Rattle.cil_model.specs.declared.place.Kind.TheVariants.{AddrBools, AddrInts, Bools, Int, Ints, Native, NullRef, Text}
 use Rattle.cil_model.specs.declared.place.Place.{Place}
 use Rattle.cil_model.specs.declared.place.Place.TheVariants as places
 use Rattle.cil_model.specs.declared.unit.Unit.{Unit as MethodUnit}
@@ -32,6 +32,7 @@ use Rattle.cil_model.proofs.KindsSettle.{Absorbs}
 use Rattle.frame_names.specs.declared.var.Var.{Var}
 use Rattle.frame_names.specs.declared.var.Var.TheVariants as vars
 use Rattle.number_spans.specs.Constants.{constant}
+use Rattle.obligation_prover.specs.Operations.{from_top}
 use Rattle.state_facts.proofs.AssumptionForms.{length_number}
 use Rattle.state_facts.proofs.ComparisonForms.{comparison_form}
 use Rattle.state_facts.proofs.Growing.{Formed}
@@ -46,12 +47,13 @@ use Rattle.state_obligations.proofs.Following.{assumed_follows}
 use Rattle.state_obligations.specs.Following.{StaysThereIn}
 use Rattle.state_obligations.specs.Assumed.{assumed_by}
 use Rattle.state_obligations.specs.declared.condition.Condition.TheVariants as conditions
-use Rattle.transfer_rules.specs.Acts.{acted, arg_place, behind_call, behind_test, calculated, complemented, duplicated, given, left, loaded, local_place, negated, operated, put_into, stored, taken_from, type_of, with_condition, with_item_of, with_item_put, with_length, with_new}
+use Rattle.transfer_rules.specs.Acts.{acted, arg_place, behind_call, behind_test, calculated, complemented, duplicated, given, left, loaded, local_place, negated, operated, put_into, stored, taken_from, type_of, with_address, with_condition, with_item_at, with_item_of, with_item_put, with_length, with_new, with_put_at}
 use Rattle.transfer_rules.specs.Forms.{FitKinds, FitsKind, FitsStack, HasKinds, kind_in, kinds_over}
 use Rattle.transfer_rules.specs.Laws.CalledForms.{IsWithin, called_fits, found_callee}
-use Rattle.transfer_rules.specs.Laws.Fitting.{AreKinds, over_stack, IsOperand, fit_at, fit_last, fit_pushed, has_stayed, one_taken, operand_before, over_more, over_popped, over_pushed, there_at, three_taken, two_taken}
+use Rattle.transfer_rules.specs.Laws.Fitting.{AreKinds, over_stack, IsOperand, fit_at, fit_last, fit_pushed, has_stayed, one_taken, operand_before, over_more, over_popped, over_pushed, there_at, three_taken, two_taken, two_tops}
+use Rattle.transfer_rules.specs.Owed.{HasItems, IsReady}
 use Rattle.transfer_rules.specs.Operands.{Rule, on_condition, on_one, on_three, on_two, with_one}
-use Rattle.transfer_rules.specs.Laws.KindForms.{IsReferenceVar, alike_of, array_kind, merged_fits, number_fits, pushed_form, reference_fits, taken_fits, when_same}
+use Rattle.transfer_rules.specs.Laws.KindForms.{IsAddressVar, IsReferenceVar, address_fits, alike_of, array_kind, merged_fits, named_fits, number_fits, pushed_form, reference_fits, taken_fits, when_same}
 use Rattle.transfer_rules.specs.Laws.FittingResults.{GivesNumber, array_more, comparison_number, frame_kept, item_number, number_more, one_set, put_sets, result_number, stored_keeps}
 
 -- ---- states
@@ -229,10 +231,8 @@ module _ (unit : MethodUnit) where
   result_fits op (vars.Number a) (vars.Number b) stack x first second has =
       gives_number stack x (with_result op a b x) has (with_result_form op a b x has.form first.there second.there)
       (result_number op a b x)
-  result_fits op (vars.Number a) (vars.Reference q) stack x first second has = elim second.fits [ ]
-  result_fits op (vars.Number a) vars.Text stack x first second has = elim second.fits [ ]
-  result_fits op (vars.Reference r) w stack x first second has = elim first.fits [ ]
-  result_fits op vars.Text w stack x first second has = elim first.fits [ ]
+  result_fits op (vars.Number a) _ stack x first second has = elim second.fits [ ]
+  result_fits op _ w stack x first second has = elim first.fits [ ]
 
   operated_fits : (op : BinOp) (o : Option CmpOp) (stack after : List Kind) (known : StateFacts) → comparison_of op ≡ o
       → kinds.behind_operator o stack ≡ Some after → HasKinds (kinds_over unit stack) known
@@ -261,8 +261,7 @@ module _ (unit : MethodUnit) where
       gives_number stack x (with_result operators.Sub (constant n) e x) has
       (with_result_form operators.Sub (constant n) e x has.form (near (length x.facts.ranges)) own.there)
       (result_number operators.Sub (constant n) e x)
-  from_fits n (vars.Reference r) stack x near own has = elim own.fits [ ]
-  from_fits n vars.Text stack x near own has = elim own.fits [ ]
+  from_fits n _ stack x near own has = elim own.fits [ ]
 
   taken_number : (n : ℤ) (stack after : List Kind) (known : StateFacts) → ((m : ℕ) → IsNumber m (constant n))
       → kinds.behind_number stack ≡ Some after → HasKinds (kinds_over unit stack) known
@@ -293,8 +292,7 @@ module _ (unit : MethodUnit) where
       (array_more (kinds_over unit stack) place x (with_array place n x) has
       (array_form place n x has.form array there) array
       (record { reference = _; variables = refl; references = refl; place_is = refl }))
-  new_fits place (vars.Reference r) stack x array there fits has = elim fits [ ]
-  new_fits place vars.Text stack x array there fits has = elim fits [ ]
+  new_fits place _ stack x array there fits has = elim fits [ ]
 
   -- What a number of an array type names is one.
   abbrev AreArrays : Option Place → Type 0
@@ -326,8 +324,7 @@ module _ (unit : MethodUnit) where
         there = length_number x r has.form there;
         fits = tt;
       })
-  long_fits (vars.Number e) stack x there is has = elim is [ ]
-  long_fits vars.Text stack x there is has = elim is [ ]
+  long_fits _ stack x there is has = elim is [ ]
 
   length_fits : (stack after : List Kind) (known : StateFacts) → kinds.behind_length stack ≡ Some after
       → HasKinds (kinds_over unit stack) known → FitsStack unit (Some after) (on_one with_length known)
@@ -344,10 +341,8 @@ module _ (unit : MethodUnit) where
   unfolding with_item
   item_fits (vars.Reference r) (vars.Number i) stack x is fits has =
       gives_number stack x (with_item r i x) has (item_form r i x has.form) (item_number r i x)
-  item_fits (vars.Reference r) (vars.Reference q) stack x is fits has = elim fits [ ]
-  item_fits (vars.Reference r) vars.Text stack x is fits has = elim fits [ ]
-  item_fits (vars.Number e) w stack x is fits has = elim is [ ]
-  item_fits vars.Text w stack x is fits has = elim is [ ]
+  item_fits (vars.Reference r) _ stack x is fits has = elim fits [ ]
+  item_fits _ w stack x is fits has = elim is [ ]
 
   read_fits : (place : Place) (stack after : List Kind) (known : StateFacts)
       → kinds.behind_load place stack ≡ Some after
@@ -369,12 +364,9 @@ module _ (unit : MethodUnit) where
       (frame_kept (kinds_over unit stack) x (with_stored r i value x) has
       (stored_form r i value x has.form index.there own.there)
       (stored_keeps r i value x))
-  write_fits (vars.Reference r) (vars.Number i) (vars.Reference q) stack x is index own has = elim own.fits [ ]
-  write_fits (vars.Reference r) (vars.Number i) vars.Text stack x is index own has = elim own.fits [ ]
-  write_fits (vars.Reference r) (vars.Reference q) w stack x is index own has = elim index.fits [ ]
-  write_fits (vars.Reference r) vars.Text w stack x is index own has = elim index.fits [ ]
-  write_fits (vars.Number e) v w stack x is index own has = elim is [ ]
-  write_fits vars.Text v w stack x is index own has = elim is [ ]
+  write_fits (vars.Reference r) (vars.Number i) _ stack x is index own has = elim own.fits [ ]
+  write_fits (vars.Reference r) _ w stack x is index own has = elim index.fits [ ]
+  write_fits _ v w stack x is index own has = elim is [ ]
 
   written_fits : (place : Place) (stack after : List Kind) (known : StateFacts)
       → kinds.behind_store place stack ≡ Some after
@@ -389,6 +381,80 @@ module _ (unit : MethodUnit) where
       second
       third last))
   written_fits place _ after known typed has = absurd (none-some after typed)
+
+  -- ---- addresses
+
+  -- The array is not null where the faults were assumed away.
+  addressed_fits : (place : Place) (k address : Kind) (v w : Var) (stack : List Kind) (x : StateFacts)
+      → is_array_of place k ≡ true → address_kind place ≡ Some address → IsOperand x k v → IsOperand x Int w
+      → HasItems (Some v) (Some w) → HasKinds (kinds_over unit stack) x
+      → FitsStack unit (Some (address ∷ stack)) (with_address v w x)
+  addressed_fits place k address (vars.Reference r) (vars.Number i) stack x of is first second least has =
+      over_pushed unit address stack (vars.Address r i) x has (record {
+        there = (first.there, second.there);
+        fits = address_fits x place k address r i of is first.there least first.fits;
+      })
+  addressed_fits place k address (vars.Reference r) _ stack x of is first second least has = elim second.fits [ ]
+  addressed_fits place k address v w stack x of is first second least has =
+      elim (reference_fits x k v (and_parts (is_reference k) (takes place k) of).0 first.fits) [ ]
+
+  named_array : (place : Place) → IsArrayPlace place → (address : Kind) × (address_kind place ≡ Some address)
+  named_array places.Ints is = (AddrInts, refl)
+  named_array places.Bools is = (AddrBools, refl)
+  named_array places.Void is = elim is [ ]
+  named_array places.Bool is = elim is [ ]
+  named_array places.Int is = elim is [ ]
+
+  taken_fit : (o : Option Place) (stack after : List Kind) (known : StateFacts) → AreArrays o
+      → HasItems (from_top 1 known) (from_top 0 known) → kinds.behind_address o stack ≡ Some after
+      → HasKinds (kinds_over unit stack) known → FitsStack unit (Some after) (on_two with_address known)
+  taken_fit (Some place) (Int ∷ array ∷ rest) after known arrays ready typed has =
+      let both = when_same (is_array_of place array) (kinds.pushed_kind (address_kind place) rest) after typed in
+      let (address, is) = named_array place arrays in
+      let same : address ∷ rest ≡ after = ap (λ o. kinds.pushed_kind o rest) (sym is) ∙ both.1 in
+      two_tops unit Int array rest (Some after) with_address known has
+      (λ lower upper x lower_is upper_is first second last. subst
+      (λ s. FitsStack unit (Some s) (with_address lower upper x)) same
+      (addressed_fits place array address lower upper rest x both.0 is first second
+      (subst (HasItems (Some lower)) upper_is (subst (λ o. HasItems o (from_top 0 known)) lower_is ready)) last))
+  taken_fit o _ after known arrays ready typed has = absurd (none-some after typed)
+
+  item_at_fits : (v : Var) (stack : List Kind) (x : StateFacts) → IsAddressVar v → HasKinds (kinds_over unit stack) x
+      → FitsStack unit (Some (Int ∷ stack)) (with_item_at v x)
+  unfolding with_item
+  item_at_fits (vars.Address r i) stack x is has =
+      gives_number stack x (with_item r i x) has (item_form r i x has.form) (item_number r i x)
+  item_at_fits _ stack x is has = elim is [ ]
+
+  read_at_fits : (place : Place) (stack after : List Kind) (known : StateFacts)
+      → kinds.behind_load_through place stack ≡ Some after → HasKinds (kinds_over unit stack) known
+      → FitsStack unit (Some after) (on_one with_item_at known)
+  read_at_fits place (k ∷ rest) after known typed has =
+      let both = when_same (is_address_of place k) (Int ∷ rest) after typed in
+      one_taken unit k rest (Some after) with_item_at known has
+      (λ v own last. subst (λ s. FitsStack unit (Some s) (with_item_at v (popped known))) both.1
+      (item_at_fits v rest (popped known) (named_fits (popped known) place k v both.0 own.fits) last))
+  read_at_fits place [] after known typed has = absurd (none-some after typed)
+
+  put_at_fits : (v w : Var) (stack : List Kind) (x : StateFacts) → HasVar x v → IsAddressVar v → IsOperand x Int w
+      → HasKinds (kinds_over unit stack) x → FitsStack unit (Some stack) (with_put_at v w x)
+  put_at_fits (vars.Address r i) (vars.Number value) stack x there is own has =
+      over_stack unit stack (with_stored r i value x)
+      (frame_kept (kinds_over unit stack) x (with_stored r i value x) has
+      (stored_form r i value x has.form there.1 own.there)
+      (stored_keeps r i value x))
+  put_at_fits (vars.Address r i) _ stack x there is own has = elim own.fits [ ]
+  put_at_fits _ w stack x there is own has = elim is [ ]
+
+  written_at_fits : (place : Place) (stack after : List Kind) (known : StateFacts)
+      → kinds.behind_store_through place stack ≡ Some after → HasKinds (kinds_over unit stack) known
+      → FitsStack unit (Some after) (on_two with_put_at known)
+  written_at_fits place (Int ∷ k ∷ rest) after known typed has =
+      let both = when_same (is_address_of place k) rest after typed in
+      two_taken unit Int k rest (Some after) with_put_at known has
+      (λ lower upper x first second last. subst (λ s. FitsStack unit (Some s) (with_put_at lower upper x)) both.1
+      (put_at_fits lower upper rest x first.there (named_fits x place k lower both.0 first.fits) second last))
+  written_at_fits place _ after known typed has = absurd (none-some after typed)
 
   -- ---- calls and branches
 
@@ -412,8 +478,7 @@ module _ (unit : MethodUnit) where
   met_fits (vars.Number e) stack x own has =
       stays_fitting unit stack x (assumed_by (conditions.Assert e) x)
       (assumed_follows (conditions.Assert e) x has.form own.there) has
-  met_fits (vars.Reference r) stack x own has = elim own.fits [ ]
-  met_fits vars.Text stack x own has = elim own.fits [ ]
+  met_fits _ stack x own has = elim own.fits [ ]
 
   call_fits : (call : Option UnitCall) (stack after : List Kind) (known : StateFacts) → is_executed_call call ≡ true
       → IsWithin unit stack
@@ -530,56 +595,62 @@ module _ (unit : MethodUnit) where
 
   -- A return goes on nowhere.
   pub acted_fits : (op : Op) (stack after : List Kind) (known : StateFacts) → OperandFits op → is_executed op ≡ true
-      → op ≢ ops.Return
-      → IsWithin unit stack → kinds.behind (shape_of unit) op stack ≡ Some after → HasKinds (kinds_over unit stack) known
-      → FitsStack unit (Some after) (acted unit op known)
+      → op ≢ ops.Return → IsWithin unit stack → IsReady op known → kinds.behind (shape_of unit) op stack ≡ Some after
+      → HasKinds (kinds_over unit stack) known → FitsStack unit (Some after) (acted unit op known)
   unfolding acted operated negated complemented
-  acted_fits ops.Nop stack after known fits executed goes within typed has =
+  acted_fits ops.Nop stack after known fits executed goes within ready typed has =
       subst (λ s. HasKinds (kinds_over unit s) known) (same_Some stack after typed) has
-  acted_fits (ops.LoadArg n) stack after known fits executed goes within typed has =
+  acted_fits (ops.LoadArg n) stack after known fits executed goes within ready typed has =
       load_fits unit.args n (arg_place unit n) stack after known typed (λ place is. arg_kind unit stack n place is) has
-  acted_fits (ops.StoreArg n) stack after known fits executed goes within typed has =
+  acted_fits (ops.StoreArg n) stack after known fits executed goes within ready typed has =
       store_fits unit.args n (arg_place unit n) stack after known typed
       (λ place rest is. arg_kind unit rest n place is) has
-  acted_fits (ops.LoadLocal n) stack after known fits executed goes within typed has =
+  acted_fits (ops.LoadLocal n) stack after known fits executed goes within ready typed has =
       load_fits unit.locals n (local_place unit n) stack after known typed
       (λ place is. local_kind unit stack n place is) has
-  acted_fits (ops.StoreLocal n) stack after known fits executed goes within typed has =
+  acted_fits (ops.StoreLocal n) stack after known fits executed goes within ready typed has =
       store_fits unit.locals n (local_place unit n) stack after known typed
       (λ place rest is. local_kind unit rest n place is) has
-  acted_fits ops.Null stack after known fits executed goes within typed has =
+  acted_fits ops.Null stack after known fits executed goes within ready typed has =
       subst (λ s. HasKinds (kinds_over unit s) (pushed known (vars.Reference 0)))
       (same_Some (NullRef ∷ stack) after typed)
       (over_pushed unit NullRef stack (vars.Reference 0) known has (record { there = omega arith; fits = refl }))
-  acted_fits (ops.Const n) stack after known fits executed goes within typed has =
+  acted_fits (ops.Const n) stack after known fits executed goes within ready typed has =
       subst (λ s. HasKinds (kinds_over unit s) (pushed known (vars.Number (constant n))))
       (same_Some (Int ∷ stack) after typed)
       (over_pushed unit Int stack (vars.Number (constant n)) known has
       (record { there = constant_fits n (length known.facts.ranges) fits; fits = tt }))
-  acted_fits (ops.Text token) stack after known fits executed goes within typed has =
+  acted_fits (ops.Text token) stack after known fits executed goes within ready typed has =
       subst (λ s. HasKinds (kinds_over unit s) (pushed known vars.Text)) (same_Some (Text ∷ stack) after typed)
       (over_pushed unit Text stack vars.Text known has (record { there = tt; fits = tt }))
-  acted_fits ops.Dup stack after known fits executed goes within typed has = dup_fits stack after known typed has
-  acted_fits ops.Pop stack after known fits executed goes within typed has = pop_fits stack after known typed has
-  acted_fits (ops.Call number) stack after known fits executed goes within typed has =
+  acted_fits ops.Dup stack after known fits executed goes within ready typed has = dup_fits stack after known typed has
+  acted_fits ops.Pop stack after known fits executed goes within ready typed has = pop_fits stack after known typed has
+  acted_fits (ops.Call number) stack after known fits executed goes within ready typed has =
       call_fits (unit_call number) stack after known executed within typed has
-  acted_fits ops.Return stack after known fits executed goes within typed has = absurd (goes refl)
-  acted_fits (ops.Branch test target) stack after known fits executed goes within typed has =
+  acted_fits ops.Return stack after known fits executed goes within ready typed has = absurd (goes refl)
+  acted_fits (ops.Branch test target) stack after known fits executed goes within ready typed has =
       test_fits test stack after known typed has
-  acted_fits (ops.Switch targets) stack after known fits executed goes within typed has =
+  acted_fits (ops.Switch targets) stack after known fits executed goes within ready typed has =
       switch_fits stack after known typed has
-  acted_fits (ops.Bin op) stack after known fits executed goes within typed has =
+  acted_fits (ops.Bin op) stack after known fits executed goes within ready typed has =
       operated_fits op (comparison_of op) stack after known refl typed has
-  acted_fits ops.Neg stack after known fits executed goes within typed has =
+  acted_fits ops.Neg stack after known fits executed goes within ready typed has =
       taken_number (pos 0) stack after known (λ m. constant_zero m) typed has
-  acted_fits ops.Not stack after known fits executed goes within typed has =
+  acted_fits ops.Not stack after known fits executed goes within ready typed has =
       taken_number (negsuc 0) stack after known (λ m. constant_minus m) typed has
-  acted_fits ops.ConvI4 stack after known fits executed goes within typed has =
+  acted_fits ops.ConvI4 stack after known fits executed goes within ready typed has =
       converted_fits stack after known typed has
-  acted_fits (ops.NewArray number) stack after known fits executed goes within typed has =
+  acted_fits (ops.NewArray number) stack after known fits executed goes within ready typed has =
       created_fits (array_place number) stack after known (arrays_are number) typed has
-  acted_fits ops.Length stack after known fits executed goes within typed has = length_fits stack after known typed has
-  acted_fits (ops.LoadElem place) stack after known fits executed goes within typed has =
+  acted_fits ops.Length stack after known fits executed goes within ready typed has =
+      length_fits stack after known typed has
+  acted_fits (ops.LoadElem place) stack after known fits executed goes within ready typed has =
       read_fits place stack after known typed has
-  acted_fits (ops.StoreElem place) stack after known fits executed goes within typed has =
+  acted_fits (ops.StoreElem place) stack after known fits executed goes within ready typed has =
       written_fits place stack after known typed has
+  acted_fits (ops.LoadAddr number) stack after known fits executed goes within ready typed has =
+      taken_fit (array_place number) stack after known (arrays_are number) ready typed has
+  acted_fits (ops.LoadInd place) stack after known fits executed goes within ready typed has =
+      read_at_fits place stack after known typed has
+  acted_fits (ops.StoreInd place) stack after known fits executed goes within ready typed has =
+      written_at_fits place stack after known typed has

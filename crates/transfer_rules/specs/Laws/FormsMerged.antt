@@ -9,14 +9,14 @@ use Rattle.array_contents.specs.Contents.{Contents}
 use Rattle.cil_model.specs.Places.{place_number}
 use Rattle.cil_model.specs.Values.{same_place}
 use Rattle.cil_model.specs.declared.place.Kind.{Kind}
-use Rattle.cil_model.specs.declared.place.Kind.TheVariants.{Bools, Int, Ints, Native, NullRef, Text}
+use Rattle.cil_model.specs.declared.place.Kind.TheVariants.{AddrBools, AddrInts, Bools, Int, Ints, Native, NullRef, Text}
 use Rattle.cil_model.specs.declared.place.Place.{Place}
 use Rattle.cil_model.specs.declared.place.Place.TheVariants as places
 use Rattle.cil_model.specs.declared.unit.Unit.{Unit as MethodUnit}
 use Rattle.domain_api.specs.declared.expr.Expr.{Expr}
 use Rattle.frame_names.proofs.SaidLaws.{frames_say}
 use Rattle.frame_names.specs.Frames as frames
-use Rattle.frame_names.specs.Meaning.{Said, SaysBoth, an_array, numbers_behind, said}
+use Rattle.frame_names.specs.Meaning.{Said, SaysBoth, an_address, an_array, numbers_behind, said}
 use Rattle.frame_names.specs.MergedReferences.{merged_references, one_place}
 use Rattle.frame_names.specs.PairedFrames.{FramePairing, behind, if_near, is_near, named_frame, old_at, paired_frames, pairing_by, pairs_of}
 use Rattle.frame_names.specs.declared.reference.Reference.{Reference}
@@ -34,26 +34,30 @@ use Rattle.state_facts.specs.Forms.{HasForm, HasVar, IsArrayPlace}
 use Rattle.state_facts.specs.StateFacts as states
 use Rattle.state_facts.specs.StateFacts.{StateFacts, State, both_of_same_place}
 use Rattle.symbolic_values.specs.Pairing.{origin}
+use Rattle.symbolic_values.specs.Worth.{worth}
 use Rattle.symbolic_values.specs.declared.def.Def.{Def}
 use Rattle.symbolic_values.specs.declared.pairs.Key.{Key}
 use Rattle.alias_facts.specs.PairsOf.{Pair}
-use Rattle.transfer_rules.specs.Forms.{FitKinds, FitsKind, FitsStack, HasKinds, is_of_place, kinds_over}
+use Rattle.transfer_rules.specs.Forms.{FitKinds, FitsKind, FitsStack, HasKinds, kinds_over}
 use Rattle.transfer_rules.specs.Laws.Fitting.{AreKinds, over_stack}
 use Rattle.transfer_rules.specs.Laws.FittingResults.{any_number}
-use Rattle.transfer_rules.specs.Laws.KindForms.{zero_of_place}
+use Rattle.transfer_rules.specs.Laws.KindForms.{array_or_null, is_typed, never_null, zero_of_place}
 
 -- ---- states that are like each other
 
 both_number : (m n k : ℕ) → (m == k) ≡ true → (n == k) ≡ true → (m == n) ≡ true
 both_number m n k first second = (Decides-eqb m n).1 ((Decides-eqb m k).0 first ∙ sym ((Decides-eqb n k).0 second))
 
-both_place : (place : Place) (x y : Option Reference)
-    → option_map_or (λ r. same_place r.place place) x true ≡ true
-    → option_map_or (λ r. same_place r.place place) y true ≡ true → both_of_same_place x y ≡ true
+both_place : (place : Place) (x y : Option Reference) → is_typed place true x ≡ true → is_typed place true y ≡ true
+    → both_of_same_place x y ≡ true
 both_place place None y first second = refl
 both_place place (Some x) None first second = refl
 both_place place (Some x) (Some y) first second =
     both_number (place_number x.place) (place_number y.place) (place_number place) first second
+
+both_arrays : (place : Place) (x y : Option Reference) → is_typed place false x ≡ true
+    → is_typed place false y ≡ true → both_of_same_place x y ≡ true
+both_arrays place x y first second = both_place place x y (array_or_null place x first) (array_or_null place y second)
 
 no_place : (references others : List Reference) (r q : ℕ) → r ≡ 0
     → both_of_same_place (states.reference_at references r) (states.reference_at others q) ≡ true
@@ -70,18 +74,18 @@ like_kind a b Bools (vars.Reference r) (vars.Reference q) first second =
     both_place places.Bools (states.reference_at a.references r) (states.reference_at b.references q) first second
 like_kind a b NullRef (vars.Reference r) (vars.Reference q) first second = no_place a.references b.references r q first
 like_kind a b Text vars.Text vars.Text first second = tt
-like_kind a b Int (vars.Number e) (vars.Reference q) first second = elim second [ ]
-like_kind a b Int (vars.Number e) vars.Text first second = elim second [ ]
-like_kind a b Native (vars.Number e) (vars.Reference q) first second = elim second [ ]
-like_kind a b Native (vars.Number e) vars.Text first second = elim second [ ]
-like_kind a b Ints (vars.Reference r) (vars.Number f) first second = elim second [ ]
-like_kind a b Ints (vars.Reference r) vars.Text first second = elim second [ ]
-like_kind a b Bools (vars.Reference r) (vars.Number f) first second = elim second [ ]
-like_kind a b Bools (vars.Reference r) vars.Text first second = elim second [ ]
-like_kind a b NullRef (vars.Reference r) (vars.Number f) first second = elim second [ ]
-like_kind a b NullRef (vars.Reference r) vars.Text first second = elim second [ ]
-like_kind a b Text vars.Text (vars.Number f) first second = elim second [ ]
-like_kind a b Text vars.Text (vars.Reference q) first second = elim second [ ]
+like_kind a b AddrInts (vars.Address r e) (vars.Address q f) first second =
+    both_arrays places.Ints (states.reference_at a.references r) (states.reference_at b.references q) first second
+like_kind a b AddrBools (vars.Address r e) (vars.Address q f) first second =
+    both_arrays places.Bools (states.reference_at a.references r) (states.reference_at b.references q) first second
+like_kind a b Int (vars.Number e) _ first second = elim second [ ]
+like_kind a b Native (vars.Number e) _ first second = elim second [ ]
+like_kind a b Ints (vars.Reference r) _ first second = elim second [ ]
+like_kind a b Bools (vars.Reference r) _ first second = elim second [ ]
+like_kind a b NullRef (vars.Reference r) _ first second = elim second [ ]
+like_kind a b Text vars.Text _ first second = elim second [ ]
+like_kind a b AddrInts (vars.Address r e) _ first second = elim second [ ]
+like_kind a b AddrBools (vars.Address r e) _ first second = elim second [ ]
 like_kind a b _ _ w first second = elim first [ ]
 
 like_kinds : (a b : StateFacts) (ks : List Kind) (vs ws : List Var) → FitKinds a ks vs → FitKinds b ks ws
@@ -122,27 +126,27 @@ merged_at a b (u ∷ us) lengths (suc i) below =
     let rest = merged_at a b us (behind lengths) i (omega (arith, below)) in
     record { reference = rest.reference; is = rest.is; place_is = rest.place_is }
 
-abbrev of_place : Place → Option Place → Bool
-of_place place found = option_map_or (λ p. same_place p place) found true
+-- Where a reference is not there, its type is taken to be as given.
+abbrev of_place : Place → Bool → Option Place → Bool
+of_place place other found = option_map_or (λ p. same_place p place) found other
 
-read_place : (place : Place) (o : Option Reference)
-    → option_map_or (λ r. same_place r.place place) o true ≡ of_place place (frames.place_in o)
-read_place place None = refl
-read_place place (Some r) = refl
+read_place : (place : Place) (other : Bool) (o : Option Reference)
+    → is_typed place other o ≡ of_place place other (frames.place_in o)
+read_place place other None = refl
+read_place place other (Some r) = refl
 
-read_at : (known : StateFacts) (place : Place) (r : ℕ) → is_of_place known place r ≡ true
-    → of_place place (frames.place_at known.references r) ≡ true
-read_at known place r is =
-    sym (read_place place (frames.reference_at known.references r))
-    ∙ ap (λ o. option_map_or (λ (x : Reference). same_place x.place place) o true)
-    (sym (same_entry known.references r)) ∙ is
+read_at : (known : StateFacts) (place : Place) (other : Bool) (r : ℕ)
+    → is_typed place other (states.reference_at known.references r) ≡ true
+    → of_place place other (frames.place_at known.references r) ≡ true
+read_at known place other r is =
+    sym (read_place place other (frames.reference_at known.references r))
+    ∙ ap (is_typed place other) (sym (same_entry known.references r)) ∙ is
 
-either_place : (place : Place) (p q : Option Place) → of_place place p ≡ true → of_place place q ≡ true
-    → IsArrayPlace (one_place p q)
-    → same_place (one_place p q) place ≡ true
-either_place place (Some p) q first second array = first
-either_place place None (Some q) first second array = second
-either_place place None None first second array = elim array [ ]
+either_place : (place : Place) (other : Bool) (p q : Option Place) → of_place place other p ≡ true
+    → of_place place other q ≡ true → IsArrayPlace (one_place p q) → same_place (one_place p q) place ≡ true
+either_place place other (Some p) q first second array = first
+either_place place other None (Some q) first second array = second
+either_place place other None None first second array = elim array [ ]
 
 null_place : (known : StateFacts) (r : ℕ) → r ≡ 0 → frames.place_at known.references r ≡ None
 null_place known zero is = refl
@@ -164,31 +168,30 @@ record IsMergedOf (a b to : StateFacts) (us : List Key) : Type 0 where
   references : to.references ≡ map entry_of (merged_references a.references b.references us lengths)
   arrays : AllByRecursion (HasArrayPlace a.references b.references) us
 
-new_place : (a b to : StateFacts) (us : List Key) (merged : IsMergedOf a b to us) (place : Place) (i r q : ℕ)
-    → i < length us
-    → (get_or us i origin).s ≡ r → (get_or us i origin).t ≡ q → is_of_place a place r ≡ true
-    → is_of_place b place q ≡ true
-    → is_of_place to place (suc i) ≡ true
+-- A new reference is one to arrays of a type where both old ones are. Those that are not there are as given.
+new_place : (a b to : StateFacts) (us : List Key) (merged : IsMergedOf a b to us) (place : Place) (other : Bool)
+    (i r q : ℕ) → i < length us → (get_or us i origin).s ≡ r → (get_or us i origin).t ≡ q
+    → is_typed place other (states.reference_at a.references r) ≡ true
+    → is_typed place other (states.reference_at b.references q) ≡ true
+    → is_typed place other (states.reference_at to.references (suc i)) ≡ true
 unfolding states.reference_at
-new_place a b to us merged place i r q below r_is q_is first second =
+new_place a b to us merged place other i r q below r_is q_is first second =
     let u = get_or us i origin in
     let found = merged_at a.references b.references us merged.lengths i below in
-    ap (λ references. option_map_or (λ (x : Reference). same_place x.place place) (slice_get references i) true)
-    merged.references
-    ∙ ap (λ o. option_map_or (λ (x : Reference). same_place x.place place) o true) found.is
-    ∙ ap (λ p. same_place p place) found.place_is
-    ∙ either_place place (frames.place_at a.references u.s) (frames.place_at b.references u.t)
-    (read_at a place u.s (subst (λ n. is_of_place a place n ≡ true) (sym r_is) first))
-    (read_at b place u.t (subst (λ n. is_of_place b place n ≡ true) (sym q_is) second))
+    ap (λ references. is_typed place other (slice_get references i)) merged.references
+    ∙ ap (is_typed place other) found.is ∙ ap (λ p. same_place p place) found.place_is
+    ∙ either_place place other (frames.place_at a.references u.s) (frames.place_at b.references u.t)
+    (read_at a place other u.s
+    (subst (λ n. is_typed place other (states.reference_at a.references n) ≡ true) (sym r_is) first))
+    (read_at b place other u.t
+    (subst (λ n. is_typed place other (states.reference_at b.references n) ≡ true) (sym q_is) second))
     (all_at (HasArrayPlace a.references b.references) us i merged.arrays below)
 
 zero_fits : (a to : StateFacts) (k : Kind) (r : ℕ) → FitsKind a k (vars.Reference r) → FitsKind to k (vars.Reference 0)
 zero_fits a to Ints r fits = zero_of_place to places.Ints 0 refl
 zero_fits a to Bools r fits = zero_of_place to places.Bools 0 refl
 zero_fits a to NullRef r fits = refl
-zero_fits a to Int r fits = elim fits [ ]
-zero_fits a to Native r fits = elim fits [ ]
-zero_fits a to Text r fits = elim fits [ ]
+zero_fits a to _ r fits = elim fits [ ]
 
 -- What stands for two references that fit a kind fits it.
 one_fits : (a b to : StateFacts) (us : List Key) → IsMergedOf a b to us → (k : Kind) (p r q : ℕ) → p ≤ length us
@@ -197,27 +200,41 @@ one_fits : (a b to : StateFacts) (us : List Key) → IsMergedOf a b to us → (k
     → FitsKind to k (vars.Reference p)
 one_fits a b to us merged k zero r q there r_is q_is first second = zero_fits a to k r first
 one_fits a b to us merged Ints (suc i) r q there r_is q_is first second =
-    new_place a b to us merged places.Ints i r q (omega (arith, there)) r_is q_is first second
+    new_place a b to us merged places.Ints true i r q (omega (arith, there)) r_is q_is first second
 one_fits a b to us merged Bools (suc i) r q there r_is q_is first second =
-    new_place a b to us merged places.Bools i r q (omega (arith, there)) r_is q_is first second
+    new_place a b to us merged places.Bools true i r q (omega (arith, there)) r_is q_is first second
 one_fits a b to us merged NullRef (suc i) r q there r_is q_is first second =
     absurd (two_nulls (frames.place_at a.references (get_or us i origin).s)
     (frames.place_at b.references (get_or us i origin).t)
     (null_place a (get_or us i origin).s (r_is ∙ first)) (null_place b (get_or us i origin).t (q_is ∙ second))
     (all_at (HasArrayPlace a.references b.references) us i merged.arrays (omega (arith, there))))
-one_fits a b to us merged Int (suc i) r q there r_is q_is first second = elim first [ ]
-one_fits a b to us merged Native (suc i) r q there r_is q_is first second = elim first [ ]
-one_fits a b to us merged Text (suc i) r q there r_is q_is first second = elim first [ ]
+one_fits a b to us merged _ (suc i) r q there r_is q_is first second = elim first [ ]
+
+-- So for an address. Its reference is not 0, since neither of the two is.
+address_fits : (a b to : StateFacts) (us : List Key) → IsMergedOf a b to us → (k : Kind) (p r q : ℕ) (e f g : Expr)
+    → p ≤ length us → old_at true us p ≡ r → old_at false us p ≡ q → FitsKind a k (vars.Address r f)
+    → FitsKind b k (vars.Address q g) → FitsKind to k (vars.Address p e)
+address_fits a b to us merged AddrInts zero r q e f g there r_is q_is first second =
+    absurd (never_null a places.Ints r (sym r_is) first)
+address_fits a b to us merged AddrBools zero r q e f g there r_is q_is first second =
+    absurd (never_null a places.Bools r (sym r_is) first)
+address_fits a b to us merged AddrInts (suc i) r q e f g there r_is q_is first second =
+    new_place a b to us merged places.Ints false i r q (omega (arith, there)) r_is q_is first second
+address_fits a b to us merged AddrBools (suc i) r q e f g there r_is q_is first second =
+    new_place a b to us merged places.Bools false i r q (omega (arith, there)) r_is q_is first second
+address_fits a b to us merged _ p r q e f g there r_is q_is first second = elim first [ ]
 
 -- ---- merged variables
 
 text_fits : (a to : StateFacts) (k : Kind) → FitsKind a k vars.Text → FitsKind to k vars.Text
 text_fits a to Text fits = tt
-text_fits a to Int fits = elim fits [ ]
-text_fits a to Native fits = elim fits [ ]
-text_fits a to Ints fits = elim fits [ ]
-text_fits a to Bools fits = elim fits [ ]
-text_fits a to NullRef fits = elim fits [ ]
+text_fits a to _ fits = elim fits [ ]
+
+same_array : (x y : ℕ) → an_array (Some x) ≡ an_array (Some y) → x ≡ y
+same_array x y is = cc
+
+same_address : (x y : ℕ) (n m : ℤ) → an_address (Some x) n ≡ an_address (Some y) m → x ≡ y
+same_address x y n m is = cc
 
 -- What stands for two variables that fit a kind, by what it says of both.
 var_fits : (a b to : StateFacts) (us : List Key) (m n l : ℕ → ℤ) → IsMergedOf a b to us
@@ -228,22 +245,20 @@ var_fits a b to us m n l merged count k (vars.Number e) (vars.Number f) u first 
     any_number a to k f e one
 var_fits a b to us m n l merged count k (vars.Reference p) (vars.Reference r)
     (vars.Reference q) first second there one other =
-    one_fits a b to us merged k p r q (omega (arith, there, count)) (same p r true first)
-    (same p q false second) one other
-  where
-    same : (p r : ℕ) (side : Bool) → an_array (Some (old_at side us p)) ≡ an_array (Some r) → old_at side us p ≡ r
-    same p r side is = cc
+    one_fits a b to us merged k p r q (omega (arith, there, count)) (same_array (old_at true us p) r first)
+    (same_array (old_at false us p) q second) one other
 var_fits a b to us m n l merged count k vars.Text vars.Text u first second there one other = text_fits a to k one
-var_fits a b to us m n l merged count k (vars.Number e) (vars.Reference r) u first second there one other = absurd cc
-var_fits a b to us m n l merged count k (vars.Number e) vars.Text u first second there one other = absurd cc
-var_fits a b to us m n l merged count k (vars.Reference p) (vars.Number f) u first second there one other = absurd cc
-var_fits a b to us m n l merged count k (vars.Reference p) vars.Text u first second there one other = absurd cc
-var_fits a b to us m n l merged count k (vars.Reference p) (vars.Reference r)
-    (vars.Number f) first second there one other = absurd cc
-var_fits a b to us m n l merged count k (vars.Reference p) (vars.Reference r) vars.Text first second there one other =
+var_fits a b to us m n l merged count k (vars.Address p e) (vars.Address r f)
+    (vars.Address q g) first second there one other =
+    let within = there.0 in
+    address_fits a b to us merged k p r q e f g (omega (arith, within, count))
+    (same_address (old_at true us p) r (worth m e) (worth l f) first)
+    (same_address (old_at false us p) q (worth n e) (worth l g) second) one other
+var_fits a b to us m n l merged count k (vars.Reference p) (vars.Reference r) _ first second there one other =
     absurd cc
-var_fits a b to us m n l merged count k vars.Text (vars.Number f) u first second there one other = absurd cc
-var_fits a b to us m n l merged count k vars.Text (vars.Reference r) u first second there one other = absurd cc
+var_fits a b to us m n l merged count k (vars.Address p e) (vars.Address r f) _ first second there one other =
+    absurd cc
+var_fits a b to us m n l merged count k _ _ u first second there one other = absurd cc
 
 heads : (x y : Said) (xs ys : List Said) → x ∷ xs ≡ y ∷ ys → (x ≡ y) × (xs ≡ ys)
 heads x y xs ys is = (cc, cc)

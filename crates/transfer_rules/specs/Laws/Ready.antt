@@ -1,5 +1,5 @@
--- Where the faults of an operator were assumed away, its operands are such as it may be asked of.
-use Rattle.std.proofs.Common.{◌≡◌, ◌≢◌, ℕ, ℤ, pos, ◌+ℤ◌, ◌-ℤ◌, ◌≤ℤ◌, Bool, true, false, ◌&&◌, int_le, List, [], ◌∷◌, Option, Some, None, refl, sym, ap, subst, ◌∙◌, arith}
+-- Where the faults of an instruction were assumed away, its operands are such as it may be asked of.
+use Rattle.std.proofs.Common.{◌≡◌, ◌≢◌, ℕ, zero, suc, ◌≤◌, ℤ, pos, ◌+ℤ◌, ◌-ℤ◌, ◌≤ℤ◌, Bool, true, false, ◌&&◌, int_le, List, [], ◌∷◌, Option, Some, None, refl, sym, ap, subst, ◌∙◌, arith}
 use Rattle.std.specs.Prelude.{reverse, slice_get}
 use Rattle.std.specs.Option.{ForSome, option_and_then, option_map, option_map_or}
 use Rattle.std.proofs.lemmas.Bool.{cond_both}
@@ -20,11 +20,11 @@ use Rattle.number_facts.specs.Gaps.{at_most, equal, gap}
 use Rattle.number_spans.specs.Constants.{constant}
 use Rattle.number_spans.specs.Owed.{Divides, IsPlaces, NotZero, Shifts}
 use Rattle.obligation_prover.specs.Avoiding.{avoid_all}
-use Rattle.obligation_prover.specs.Operations.{binary_of, from_top, operation_of}
+use Rattle.obligation_prover.specs.Operations.{binary_of, element_of, from_top, operation_of}
 use Rattle.pentagon_domain.specs.Gaps as by_bounds
-use Rattle.state_facts.specs.Assuming.{assumed, with_facts, with_steps, with_test}
+use Rattle.state_facts.specs.Assuming.{assumed, with_facts, with_null, with_steps, with_test}
 use Rattle.state_facts.specs.Forms.{HasForm}
-use Rattle.state_facts.specs.StateFacts.{StateFacts, State}
+use Rattle.state_facts.specs.StateFacts.{StateFacts, State, reference_at}
 use Rattle.state_obligations.specs.Assumed.{assumed_by, compared, not_negative}
 use Rattle.state_obligations.specs.Conditions.{conditions_of, operator_conditions}
 use Rattle.state_obligations.specs.Following.{StaysThereIn}
@@ -32,7 +32,7 @@ use Rattle.state_obligations.specs.Judged.{judged}
 use Rattle.state_obligations.specs.declared.condition.Condition.{Condition}
 use Rattle.state_obligations.specs.declared.condition.Condition.TheVariants as conditions
 use Rattle.transfer_rules.specs.Choices.{chosen}
-use Rattle.transfer_rules.specs.Owed.{AreReadyFor, IsReady}
+use Rattle.transfer_rules.specs.Owed.{AreReadyFor, HasItems, IsReady}
 use Rattle.transfer_rules.specs.Laws.PostLaws.{avoided_stays}
 
 -- ---- constants
@@ -157,10 +157,24 @@ operands_ready : (op : BinOp) (v w : Option Var) (known after : StateFacts)
 operands_ready op (Some (vars.Number a)) (Some (vars.Number b)) known after is = operator_ready op a b known after is
 operands_ready op None w known after is = tt
 operands_ready op (Some (vars.Number a)) None known after is = tt
-operands_ready op (Some (vars.Number a)) (Some (vars.Reference q)) known after is = tt
-operands_ready op (Some (vars.Number a)) (Some vars.Text) known after is = tt
-operands_ready op (Some (vars.Reference r)) w known after is = tt
-operands_ready op (Some vars.Text) w known after is = tt
+operands_ready op (Some (vars.Number a)) (Some _) known after is = tt
+operands_ready op (Some _) w known after is = tt
+
+-- Reference 0 is null.
+array_ready : (r : ℕ) (known after : StateFacts) → assumed_by (conditions.NullUse r) known ≡ Some after → 1 ≤ r
+unfolding assumed_by assumed with_null reference_at
+array_ready zero known after is = absurd (none-some after is)
+array_ready (suc r) known after is = omega arith
+
+element_ready : (v w : Option Var) (known after : StateFacts)
+    → (judged (option_map_or conditions_of (element_of v w) []) (Some known)).state ≡ Some after → HasItems v w
+element_ready (Some (vars.Reference r)) (Some (vars.Number i)) known after is =
+    let first = first_reached (conditions.NullUse r) (conditions.Lower i ∷ conditions.Upper r i ∷ []) known after is in
+    array_ready r known first.0 first.1
+element_ready (Some (vars.Reference r)) None known after is = tt
+element_ready (Some (vars.Reference r)) (Some _) known after is = tt
+element_ready (Some _) w known after is = tt
+element_ready None w known after is = tt
 
 -- Variables are as they were.
 same_variables : (known : StateFacts) (o : State) (after : StateFacts) → StaysThereIn known o → o ≡ Some after
@@ -178,10 +192,21 @@ bin_ready op known form = λ after is.
     subst (λ (vs : List Var). AreReadyFor op (slice_get (reverse vs) 1) (slice_get (reverse vs) 0)) (sym same)
     (operands_ready op (from_top 1 known) (from_top 0 known) known after is)
 
+address_ready : (number : ℕ) (known : StateFacts) → HasForm known
+    → ForSome (avoid_all (ops.LoadAddr number) (Some known)) (IsReady (ops.LoadAddr number))
+unfolding operation_of
+address_ready number known form = λ after is.
+    let same = same_variables known (avoid_all (ops.LoadAddr number) (Some known)) after
+    (avoided_stays (ops.LoadAddr number) known form) is in
+    subst (λ (vs : List Var). HasItems (slice_get (reverse vs) 1) (slice_get (reverse vs) 0)) (sym same)
+    (element_ready (from_top 1 known) (from_top 0 known) known after is)
+
 -- Where the faults of an instruction were assumed away, its operands are ready.
 pub avoided_ready : (op : Op) (state : State) → ForSome state HasForm → ForSome (avoid_all op state) (IsReady op)
 avoided_ready (ops.Bin op) None form = λ after is. absurd (none-some after is)
 avoided_ready (ops.Bin op) (Some known) form = bin_ready op known (form known refl)
+avoided_ready (ops.LoadAddr number) None form = λ after is. absurd (none-some after is)
+avoided_ready (ops.LoadAddr number) (Some known) form = address_ready number known (form known refl)
 avoided_ready _ state form = λ after is. tt
 
 -- So along each way.
@@ -190,4 +215,6 @@ pub chosen_ready : (op : Op) (way : ℕ) (state : State) → ForSome state (IsRe
 unfolding chosen
 chosen_ready (ops.Bin op) way None ready = λ after is. absurd (none-some after is)
 chosen_ready (ops.Bin op) way (Some known) ready = ready
+chosen_ready (ops.LoadAddr number) way None ready = λ after is. absurd (none-some after is)
+chosen_ready (ops.LoadAddr number) way (Some known) ready = ready
 chosen_ready _ way state ready = λ after is. tt

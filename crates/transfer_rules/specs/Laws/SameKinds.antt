@@ -1,5 +1,5 @@
 -- Variables of the same forms fit the same kinds, and what fits the kind of a place is what clauses read there.
-use Rattle.std.proofs.Common.{◌≡◌, ℕ, zero, suc, ◌<◌, ◌≤◌, Bool, true, List, [], ◌∷◌, length, slice_get, Option, Some, None, refl, sym, ap, subst, ◌∙◌, arith}
+use Rattle.std.proofs.Common.{◌≡◌, ℕ, zero, suc, ◌<◌, ◌≤◌, true, false, List, [], ◌∷◌, length, slice_get, Option, Some, None, refl, sym, ap, subst, ◌∙◌, arith}
 use Rattle.std.specs.List.{AllByRecursion}
 use Rattle.std.specs.Option.{option_map, option_map_or}
 use Rattle.std.proofs.lemmas.Bool.{false≢true}
@@ -16,26 +16,11 @@ use Rattle.frame_names.specs.declared.var.Var.{Var}
 use Rattle.frame_names.specs.declared.var.Var.TheVariants as vars
 use Rattle.state_facts.specs.Forms.{HasVar}
 use Rattle.state_facts.specs.StateFacts.{StateFacts, State, reference_at}
-use Rattle.transfer_rules.specs.Forms.{FitKinds, FitsKind, HasKinds, is_of_place, kind_in}
+use Rattle.transfer_rules.specs.Forms.{FitKinds, FitsKind, HasKinds, kind_in}
 use Rattle.transfer_rules.specs.Laws.Fitting.{AreKinds}
+use Rattle.transfer_rules.specs.Laws.KindForms.{same_reference}
 
 -- ---- variables of the same forms
-
-of_place : Place → Option Place → Bool
-of_place place found = option_map_or (λ p. same_place p place) found true
-
-read_place : (place : Place) (o : Option Reference)
-    → option_map_or (λ r. same_place r.place place) o true ≡ option_map_or (λ p. same_place p place)
-    (option_map (λ r. r.place) o) true
-read_place place None = refl
-read_place place (Some r) = refl
-
-same_reference : (before after : StateFacts) (place : Place) (r q : ℕ) → place_in after q ≡ place_in before r
-    → is_of_place before place r ≡ true
-    → is_of_place after place q ≡ true
-same_reference before after place r q same is =
-    read_place place (reference_at after.references q) ∙ ap (λ o. option_map_or (λ p. same_place p place) o true) same
-    ∙ sym (read_place place (reference_at before.references r)) ∙ is
 
 null_only : (known : StateFacts) (q : ℕ) → place_in known q ≡ None → q ≤ length known.references → q ≡ 0
 unfolding reference_at
@@ -60,18 +45,24 @@ form_fits : (before after : StateFacts) (k : Kind) (v w : Var) → IsSameForm be
 form_fits before after kinds.Int (vars.Number e) (vars.Number f) same there fits = tt
 form_fits before after kinds.Native (vars.Number e) (vars.Number f) same there fits = tt
 form_fits before after kinds.Ints (vars.Reference r) (vars.Reference q) same there fits =
-    same_reference before after places.Ints r q same fits
+    same_reference before after places.Ints true r q same fits
 form_fits before after kinds.Bools (vars.Reference r) (vars.Reference q) same there fits =
-    same_reference before after places.Bools r q same fits
+    same_reference before after places.Bools true r q same fits
 form_fits before after kinds.NullRef (vars.Reference r) (vars.Reference q) same there fits =
     null_only after q (same ∙ null_in before r fits) there
 form_fits before after kinds.Text vars.Text vars.Text same there fits = tt
-form_fits before after k (vars.Number e) (vars.Reference q) same there fits = elim same [ ]
-form_fits before after k (vars.Number e) vars.Text same there fits = elim same [ ]
-form_fits before after k (vars.Reference r) (vars.Number f) same there fits = elim same [ ]
-form_fits before after k (vars.Reference r) vars.Text same there fits = elim same [ ]
-form_fits before after k vars.Text (vars.Number f) same there fits = elim same [ ]
-form_fits before after k vars.Text (vars.Reference q) same there fits = elim same [ ]
+form_fits before after kinds.AddrInts (vars.Address r e) (vars.Address q f) same there fits =
+    same_reference before after places.Ints false r q same fits
+form_fits before after kinds.AddrBools (vars.Address r e) (vars.Address q f) same there fits =
+    same_reference before after places.Bools false r q same fits
+form_fits before after kinds.Int (vars.Number e) _ same there fits = elim same [ ]
+form_fits before after kinds.Native (vars.Number e) _ same there fits = elim same [ ]
+form_fits before after kinds.Ints (vars.Reference r) _ same there fits = elim same [ ]
+form_fits before after kinds.Bools (vars.Reference r) _ same there fits = elim same [ ]
+form_fits before after kinds.NullRef (vars.Reference r) _ same there fits = elim same [ ]
+form_fits before after kinds.Text vars.Text _ same there fits = elim same [ ]
+form_fits before after kinds.AddrInts (vars.Address r e) _ same there fits = elim same [ ]
+form_fits before after kinds.AddrBools (vars.Address r e) _ same there fits = elim same [ ]
 form_fits before after _ _ _ same there fits = elim fits [ ]
 
 pub forms_fit : (before after : StateFacts) (ks : List Kind) (vs ws : List Var) → AreSameForms before after vs ws
@@ -114,35 +105,27 @@ bools_in : (o : Option Reference) → option_map_or (λ r. same_place r.place pl
 bools_in None is = tt
 bools_in (Some r) is = bools_place r.place is
 
+number_read : (known : StateFacts) (v : Var) → FitsKind known kinds.Int v → IsOfKind known kinds.Int v
+number_read known (vars.Number e) fits = tt
+number_read known _ fits = elim fits [ ]
+
+ints_read : (known : StateFacts) (v : Var) → FitsKind known kinds.Ints v → IsOfKind known kinds.Ints v
+ints_read known (vars.Reference r) fits = ints_in (reference_at known.references r) fits
+ints_read known _ fits = elim fits [ ]
+
+bools_read : (known : StateFacts) (v : Var) → FitsKind known kinds.Bools v → IsOfKind known kinds.Bools v
+bools_read known (vars.Reference r) fits = bools_in (reference_at known.references r) fits
+bools_read known _ fits = elim fits [ ]
+
 pub read_kind : (known : StateFacts) (place : Place) (kind : Kind) (v : Var) → kind_of place ≡ Some kind
     → FitsKind known (kind_in place) v
     → IsOfKind known kind v
 read_kind known places.Bool kind v is fits =
-    subst (λ k. IsOfKind known k v) (same_Some kinds.Int kind is) (number v fits)
-  where
-    number : (v : Var) → FitsKind known kinds.Int v → IsOfKind known kinds.Int v
-    number (vars.Number e) fits = tt
-    number (vars.Reference r) fits = elim fits [ ]
-    number vars.Text fits = elim fits [ ]
+    subst (λ k. IsOfKind known k v) (same_Some kinds.Int kind is) (number_read known v fits)
 read_kind known places.Int kind v is fits =
-    subst (λ k. IsOfKind known k v) (same_Some kinds.Int kind is) (number v fits)
-  where
-    number : (v : Var) → FitsKind known kinds.Int v → IsOfKind known kinds.Int v
-    number (vars.Number e) fits = tt
-    number (vars.Reference r) fits = elim fits [ ]
-    number vars.Text fits = elim fits [ ]
+    subst (λ k. IsOfKind known k v) (same_Some kinds.Int kind is) (number_read known v fits)
 read_kind known places.Ints kind v is fits =
-    subst (λ k. IsOfKind known k v) (same_Some kinds.Ints kind is) (array v fits)
-  where
-    array : (v : Var) → FitsKind known kinds.Ints v → IsOfKind known kinds.Ints v
-    array (vars.Reference r) fits = ints_in (reference_at known.references r) fits
-    array (vars.Number e) fits = elim fits [ ]
-    array vars.Text fits = elim fits [ ]
+    subst (λ k. IsOfKind known k v) (same_Some kinds.Ints kind is) (ints_read known v fits)
 read_kind known places.Bools kind v is fits =
-    subst (λ k. IsOfKind known k v) (same_Some kinds.Bools kind is) (array v fits)
-  where
-    array : (v : Var) → FitsKind known kinds.Bools v → IsOfKind known kinds.Bools v
-    array (vars.Reference r) fits = bools_in (reference_at known.references r) fits
-    array (vars.Number e) fits = elim fits [ ]
-    array vars.Text fits = elim fits [ ]
+    subst (λ k. IsOfKind known k v) (same_Some kinds.Bools kind is) (bools_read known v fits)
 read_kind known places.Void kind v is fits = absurd (none-some kind is)

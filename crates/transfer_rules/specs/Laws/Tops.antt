@@ -1,5 +1,5 @@
 -- What lies on top of a stack is what the last variable has, and what a variable of a frame has is found by its place.
-use Rattle.std.proofs.Common.{◌≡◌, ℕ, zero, suc, ◌+◌, ◌-◌, ◌<◌, ℤ, Option, Some, List, [], ◌∷◌, ◌++◌, length, take, refl, sym, ap, subst, ◌∙◌, zero-add, arith, append_assoc, length-append}
+use Rattle.std.proofs.Common.{◌≡◌, ℕ, zero, suc, ◌+◌, ◌-◌, ◌<◌, ℤ, Option, Some, None, List, [], ◌∷◌, ◌++◌, length, take, refl, sym, ap, subst, ◌∙◌, zero-add, arith, append_assoc, length-append}
 use Rattle.std.specs.Prelude.{reverse, set, slice_get}
 use Rattle.std.specs.List.{AllByRecursion}
 use Rattle.std.proofs.lemmas.List.{reverse-append, set-append_left, take-append-le, take_all}
@@ -17,7 +17,7 @@ use Rattle.frame_names.specs.declared.var.Var.{Var}
 use Rattle.frame_names.specs.declared.var.Var.TheVariants as vars
 use Rattle.obligation_prover.specs.Operations.{from_top}
 use Rattle.state_facts.specs.Forms.{HasForm, HasNumber, HasReference, HasVar, IsVar}
-use Rattle.state_facts.specs.Holds.{HasValue, HaveValues, HoldsBy}
+use Rattle.state_facts.specs.Holds.{HasValue, HaveValues, HoldsBy, address_of}
 use Rattle.state_facts.specs.Moves.{popped}
 use Rattle.state_facts.specs.StateFacts.{StateFacts, State}
 use Rattle.state_facts.proofs.Agreeing.{have_pushed}
@@ -193,13 +193,38 @@ pub record IsReferenceOf (known : StateFacts) (v : Var) (a : Option ℕ) (array 
   pub there : HasReference known reference
   pub array_is : array reference ≡ a
 
+-- The variable is an address, and it is that of the item of this index, in this array.
+pub record IsAddressOf (known : StateFacts) (v : Var) (a : Option ℕ) (n : ℤ) (number : ℕ → ℤ)
+    (array : ℕ → Option ℕ) : Type 0 where
+  pub reference : ℕ
+  pub index : Expr
+  pub is : v ≡ vars.Address reference index
+  pub there : HasReference known reference
+  pub index_there : HasNumber known index
+  pub array_is : array reference ≡ a
+  pub worth_is : worth number index ≡ n
+
 -- A value is no number and a reference.
 not_both : (value : Value) (n : ℤ) (a : Option ℕ) → number_of value ≡ Some n → reference_of value ≡ Some a → ⊥
 not_both (values.Int m) n a first second = none-some a second
 not_both (values.Native m) n a first second = none-some a second
 not_both values.Null n a first second = none-some n first
 not_both (values.Array i) n a first second = none-some n first
+not_both (values.Addr i m) n a first second = none-some n first
 not_both values.Text n a first second = none-some n first
+
+-- An address is neither.
+address_alone : (value : Value) (at : Option ℕ × ℤ) → address_of value ≡ Some at
+    → (number_of value ≡ None) × (reference_of value ≡ None)
+address_alone (values.Addr i m) at is = (refl, refl)
+address_alone _ at is = absurd (none-some at is)
+
+no_number : (value : Value) (n : ℤ) (at : Option ℕ × ℤ) → number_of value ≡ Some n → address_of value ≡ Some at → ⊥
+no_number value n at first second = none-some n (sym (address_alone value at second).0 ∙ first)
+
+no_reference : (value : Value) (a : Option ℕ) (at : Option ℕ × ℤ) → reference_of value ≡ Some a
+    → address_of value ≡ Some at → ⊥
+no_reference value a at first second = none-some a (sym (address_alone value at second).1 ∙ first)
 
 -- What has a number as its value is a number.
 pub as_number : (known : StateFacts) (v : Var) (value : Value) (n : ℤ) (number : ℕ → ℤ) (array : ℕ → Option ℕ)
@@ -208,6 +233,8 @@ as_number known (vars.Number e) value n number array there has is =
     record { expr = e; is = refl; there = there; worth_is = same_Some (worth number e) n (sym has ∙ is) }
 as_number known (vars.Reference r) value n number array there has is = absurd (not_both value n (array r) is has)
 as_number known vars.Text value n number array there has is = absurd (none-some n (ap number_of (sym has) ∙ is))
+as_number known (vars.Address r e) value n number array there has is =
+    absurd (no_number value n (array r, worth number e) is has)
 
 -- What has a reference as its value is a reference.
 pub as_reference : (known : StateFacts) (v : Var) (value : Value) (a : Option ℕ) (number : ℕ → ℤ)
@@ -217,6 +244,30 @@ as_reference known (vars.Number e) value a number array there has is = absurd (n
 as_reference known (vars.Reference r) value a number array there has is =
     record { reference = r; is = refl; there = there; array_is = same_Some (array r) a (sym has ∙ is) }
 as_reference known vars.Text value a number array there has is = absurd (none-some a (ap reference_of (sym has) ∙ is))
+as_reference known (vars.Address r e) value a number array there has is =
+    absurd (no_reference value a (array r, worth number e) is has)
+
+-- What has an address as its value is an address.
+pub as_address : (known : StateFacts) (v : Var) (value : Value) (a : Option ℕ) (n : ℤ) (number : ℕ → ℤ)
+    (array : ℕ → Option ℕ) → HasVar known v → HasValue number array v value → address_of value ≡ Some (a, n)
+    → IsAddressOf known v a n number array
+as_address known (vars.Address r e) value a n number array there has is =
+    let same = same_Some (array r, worth number e) (a, n) (sym has ∙ is) in
+    record {
+      reference = r;
+      index = e;
+      is = refl;
+      there = there.0;
+      index_there = there.1;
+      array_is = ap (λ (at : Option ℕ × ℤ). at.0) same;
+      worth_is = ap (λ (at : Option ℕ × ℤ). at.1) same;
+    }
+as_address known (vars.Number e) value a n number array there has is =
+    absurd (no_number value (worth number e) (a, n) has is)
+as_address known (vars.Reference r) value a n number array there has is =
+    absurd (no_reference value (array r) (a, n) has is)
+as_address known vars.Text value a n number array there has is =
+    absurd (none-some (a, n) (ap address_of (sym has) ∙ is))
 
 -- What is there is there still where the top was taken.
 pub var_below : (known : StateFacts) (v : Var) → HasVar known v → HasVar (popped known) v

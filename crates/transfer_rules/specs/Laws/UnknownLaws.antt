@@ -1,7 +1,8 @@
 -- The state of a block about which nothing is known fits the block.
-use Rattle.std.proofs.Common.{◌≢◌, ℕ, pos, List, [], ◌∷◌, ◌++◌, map, Option, Some, None, refl, sym, subst, append-nil, append_assoc, arith}
+use Rattle.std.proofs.Common.{◌≡◌, ◌≢◌, ℕ, pos, List, [], ◌∷◌, ◌++◌, map, Option, Some, None, refl, sym, subst, append-nil, append_assoc, arith}
 use Rattle.std.specs.Prelude.{reverse}
-use Rattle.std.specs.Option.{option_map}
+use Rattle.std.specs.Option.{option_and_then, option_map}
+use Rattle.cil_model.specs.Kinds.{address_kind}
 use Rattle.cil_model.specs.WellFormed.{HoldValues}
 use Rattle.cil_model.specs.declared.place.Kind.{Kind}
 use Rattle.cil_model.specs.declared.place.Kind.TheVariants as kinds
@@ -12,17 +13,18 @@ use Rattle.alias_facts.specs.PairsOf.{Pair}
 use Rattle.frame_names.specs.declared.var.Var.TheVariants as vars
 use Rattle.number_facts.specs.Fresh.{Made, fresh}
 use Rattle.state_facts.proofs.Growing.{Formed}
+use Rattle.state_facts.proofs.UnknownAddresses.{unknown_address_form}
 use Rattle.state_facts.proofs.UnknownValues.{unknown_form, within_form}
 use Rattle.state_facts.specs.Calls.{returned, with_returned}
 use Rattle.state_facts.specs.Forms.{HasForm, IsArrayPlace}
 use Rattle.state_facts.specs.StateFacts.{StateFacts, State}
 use Rattle.state_facts.specs.UnknownValues as rule
-use Rattle.state_facts.specs.UnknownValues.{push_unknown, push_within, with_within}
+use Rattle.state_facts.specs.UnknownValues.{addressed, push_unknown, push_unknown_address, push_within, with_index, with_within}
 use Rattle.transfer_rules.specs.Entry.{no_variables, with_unknown}
 use Rattle.transfer_rules.specs.Flow.{Fits}
 use Rattle.transfer_rules.specs.Forms.{FitsStack, HasKinds, kind_in}
 use Rattle.transfer_rules.specs.Laws.Fitting.{AreKinds, has_pushed, over_stack}
-use Rattle.transfer_rules.specs.Laws.FittingResults.{GivesNumber, array_more, made_number, number_more, some_number}
+use Rattle.transfer_rules.specs.Laws.FittingResults.{GivesNumber, address_more, array_more, made_number, number_more, some_number}
 use Rattle.transfer_rules.specs.Unknown.{lengths, push_of_kind, unknown, unknown_over, with_stack}
 use Rattle.unit_flow.specs.Flow.{IsLawful, kinds_at}
 use Rattle.unit_flow.specs.declared.unit_flow.UnitFlow.{UnitFlow}
@@ -37,6 +39,37 @@ each_array ks apart place known None has array form = tt
 each_array ks apart place known (Some made) has array form =
     array_more ks place known (returned apart place known made) has form array
     (record { reference = _; variables = refl; references = refl; place_is = refl })
+
+each_address : (ks : List Kind) (k : Kind) (place : Place) (known : StateFacts) (made : Made) (o : Option Made)
+    → HasKinds ks known → IsArrayPlace place → address_kind place ≡ Some k
+    → Formed (option_map (addressed known (returned known.apart place known made)) o)
+    → AreKinds (ks ++ k ∷ []) (option_map (addressed known (returned known.apart place known made)) o)
+each_address ks k place known made None has array is form = tt
+each_address ks k place known made (Some index) has array is form =
+    address_more ks k place index.expr known (addressed known (returned known.apart place known made) index) has form
+    array is (record { reference = _; variables = refl; references = refl; place_is = refl })
+
+with_address : (ks : List Kind) (k : Kind) (place : Place) (known : StateFacts) (o : Option Made) → HasKinds ks known
+    → IsArrayPlace place → address_kind place ≡ Some k
+    → Formed (option_and_then (with_index known) (option_map (returned known.apart place known) o))
+    → AreKinds (ks ++ k ∷ []) (option_and_then (with_index known) (option_map (returned known.apart place known) o))
+with_address ks k place known None has array is form = tt
+with_address ks k place known (Some made) has array is form =
+    each_address ks k place known made
+    (fresh (returned known.apart place known made).facts (pos 0) (pos 2147483647) None []) has array is form
+
+address_unknown : (ks : List Kind) (k : Kind) (place : Place) (known : StateFacts) → HasKinds ks known
+    → IsArrayPlace place → address_kind place ≡ Some k → Formed (rule.with_unknown_address place known)
+    → AreKinds (ks ++ k ∷ []) (rule.with_unknown_address place known)
+unfolding rule.with_unknown_address with_returned
+address_unknown ks k place known has array is form =
+    with_address ks k place known (fresh known.facts (pos 0) (pos 2147483647) None []) has array is form
+
+address_kept : (ks : List Kind) (k : Kind) (place : Place) (state : State) → IsArrayPlace place
+    → address_kind place ≡ Some k → AreKinds ks state → AreKinds (ks ++ k ∷ []) (push_unknown_address place state)
+address_kept ks k place None array is are = tt
+address_kept ks k place (Some known) array is has =
+    address_unknown ks k place known has array is (unknown_address_form place known has.form array)
 
 array_unknown : (ks : List Kind) (place : Place) (known : StateFacts) → HasKinds ks known → IsArrayPlace place
     → Formed (with_returned known.apart place known)
@@ -93,6 +126,8 @@ kind_kept kinds.NullRef ks (Some known) has =
     has_pushed ks kinds.NullRef (vars.Reference 0) known has (omega arith) refl
 kind_kept kinds.Text ks None are = tt
 kind_kept kinds.Text ks (Some known) has = has_pushed ks kinds.Text vars.Text known has tt tt
+kind_kept kinds.AddrInts ks state are = address_kept ks kinds.AddrInts places.Ints state tt refl are
+kind_kept kinds.AddrBools ks state are = address_kept ks kinds.AddrBools places.Bools state tt refl are
 
 stack_kept : (stack : List Kind) (ks : List Kind) (state : State) → AreKinds ks state
     → AreKinds (ks ++ stack) (with_stack stack state)

@@ -1,7 +1,7 @@
 use Rattle.std.proofs.Common.{ap, ◌∙◌}
 use Rattle.std.specs.Option.{option_and_then}
 use Rattle.obligation_prover.specs.Operations.{array_of, binary_of, call_operation, element_of, length_of}
-use Rattle.obligation_prover.proofs.Reading.{array_read, binary_read, both_read, call_read, length_read, load_read, store_read, top_in}
+use Rattle.obligation_prover.proofs.Reading.{address_read, array_read, binary_read, both_read, call_read, length_read, load_read, store_read, top_in}
 use Rattle.obligation_prover.proofs.operations.found_operation.Goals as goal
 
 pub returns-in-Length : goal.returns-in-Length
@@ -18,6 +18,13 @@ returns-in-StoreElem c =
     both_read element_of c.element_of-in-StoreElem.result c.from_top-in-StoreElem.result c.from_top-in-StoreElem-2.result (top_in c.args.state.now 2)
     (top_in c.args.state.now 1) c.element_of-in-StoreElem.ensures c.from_top-in-StoreElem.ensures.value c.from_top-in-StoreElem-2.ensures.value
     ∙ store_read c.args.op.now c.in-StoreElem.field-0 c.args.state.now c.in-StoreElem.is
+
+pub returns-in-LoadAddr : goal.returns-in-LoadAddr
+returns-in-LoadAddr c =
+    both_read element_of c.element_of-in-LoadAddr.result c.from_top-in-LoadAddr.result c.from_top-in-LoadAddr-2.result
+    (top_in c.args.state.now 1) (top_in c.args.state.now 0) c.element_of-in-LoadAddr.ensures
+    c.from_top-in-LoadAddr.ensures.value c.from_top-in-LoadAddr-2.ensures.value
+    ∙ address_read c.args.op.now c.in-LoadAddr.field-0 c.args.state.now c.in-LoadAddr.is
 
 pub returns-in-NewArray : goal.returns-in-NewArray
 returns-in-NewArray c =
