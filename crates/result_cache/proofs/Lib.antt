@@ -1,0 +1,11 @@
+mod Stands
+mod FaultsInside
+mod Counted
+mod HeldLemmas
+mod InvariantRead
+mod KeysRead
+mod Taken
+mod Again
+mod CacheAnswers
+mod FirstKeys
+mod KeptLemmas

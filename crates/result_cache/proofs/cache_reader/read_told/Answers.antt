@@ -1,0 +1,25 @@
+use Rattle.std.proofs.Common.{◌∙◌, sym, arith}
+use Rattle.cc_base.proofs.ByteLemmas.{IsBytes-from_fits}
+use Rattle.result_cache.proofs.CacheAnswers.{firsts_told, seconds_told}
+use Rattle.result_cache.proofs.KeysRead.{keys_short}
+use Rattle.result_cache.proofs.Taken.{file_taken}
+use Rattle.result_cache.proofs.cache_reader.read_told.Goals as goal
+
+pub second_form-requires-clause-short : goal.second_form-requires-clause-short
+second_form-requires-clause-short c =
+    let read = c.in_ok-form.ensures in
+    let file = file_taken c.args.bytes.now (IsBytes-from_fits c.args.bytes.now c.type_inv.bytes) read.0 in
+    keys_short c.args.bytes.now c.in_ok-form.cache 2147483647 read.1.1 (omega (arith, file.size))
+
+pub returns-in_ok-second_form-in-First : goal.returns-in_ok-second_form-in-First
+returns-in_ok-second_form-in-First c =
+    let read = c.in_ok-form.ensures in (
+      read.0,
+      firsts_told c.args.bytes.now c.in_ok-form.cache _ (sym c.in-First.is ∙ read.1.0) read.1.1
+          c.in_ok-second_form-in-First.ensures.value c.in_ok-second_form-in-First.ensures.first,
+    )
+
+pub returns-in-Second : goal.returns-in-Second
+returns-in-Second c =
+    let read = c.in_ok-form.ensures in
+    (read.0, seconds_told c.args.bytes.now c.in_ok-form.cache (sym c.in-Second.is ∙ read.1.0) read.1.1)

@@ -1,0 +1,7 @@
+pub mod Invariants
+pub mod Entries
+pub mod Parses
+pub mod CacheFile
+pub mod FirstForm
+pub mod Spelling
+pub mod Held

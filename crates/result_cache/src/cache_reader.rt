@@ -1,0 +1,93 @@
+//! Caches, read from their files.
+
+ghost use Rattle.std.specs.Prelude.{◌≡◌, ◌≤◌, List, length, Some, IfOk};
+ghost use Rattle.cc_base.specs.Tests.{first_of, GivesOnly, JudgesOrNoMemory};
+ghost use Rattle.cil_model.specs.declared.unit.Unit.{Unit as MethodUnit};
+ghost use Rattle.method_unit.specs.Units.{IsUnit};
+ghost use Rattle.unit_form.specs.Forms.{form_of};
+ghost use Rattle.unit_form.specs.Spelling.{HasCounts, unit_bytes, unit_spelling};
+ghost use Rattle.unit_form.specs.declared.form.UnitForm.{UnitForm as Form};
+ghost use Rattle.unit_form.specs.declared.form.UnitForm.TheVariants.{First};
+ghost use Rattle.result_cache.specs.CacheFile.{counted_entries, entries_of, entries_standing, first_cache_fault};
+ghost use Rattle.result_cache.specs.Entries.{Entry};
+ghost use Rattle.result_cache.specs.FirstForm.{AreFirst, entries_told, second_key};
+ghost use Rattle.result_cache.specs.Spelling.{IsCacheFile, IsCacheOf, IsFileOf};
+
+use crate::cache::Cache;
+use crate::cache_fault::{CacheFault, CacheRefusal};
+use crate::entry_reader::read_each;
+use crate::fields::{read_magic, read_u32};
+use crate::first_form::second_form;
+use std::alloc::Global;
+use unit_form::UnitForm;
+
+/// The most bytes of a cache file.
+pub const MAX_CACHE_BYTES: usize = 67_108_864;
+
+/// The entries as they stand behind the magic of a file.
+#[tactic(auto, using(cc_base::proofs::TestLemmas::appended, cc_base::proofs::TestLemmas::first_tests, cc_base::proofs::TestLemmas::carried), unfolding(crate::specs::CacheFile::counted_entries))]
+fn read_counted(alloc: Global, bytes: &[u8]) -> Result<Cache, CacheRefusal>
+    requires short { length bytes.now ≤ 2147483647 }
+    ensures { JudgesOrNoMemory result (first_of (counted_entries bytes.now).tests)
+        (λ cache. cache ≡ entries_standing bytes.now) }
+{
+    let count = read_u32(bytes, 4)?;
+    let (cache, end) = read_each(alloc, bytes, 8, count)?;
+    if bytes.len() > end as usize {
+        return Err(CacheFault::Form(end).into());
+    }
+    Ok(cache)
+}
+
+/// The form of a file, and the entries as they stand in it.
+#[tactic(auto, using(cc_base::proofs::TestLemmas::appended, cc_base::proofs::TestLemmas::first_tests, cc_base::proofs::TestLemmas::carried), unfolding(crate::specs::CacheFile::first_cache_fault))]
+fn read_standing(alloc: Global, bytes: &[u8]) -> Result<(UnitForm, Cache), CacheRefusal>
+    ensures { JudgesOrNoMemory result (first_cache_fault bytes.now)
+        (λ read. (read.0 ≡ form_of bytes.now) × (read.1 ≡ entries_standing bytes.now)) }
+{
+    if bytes.len() > MAX_CACHE_BYTES {
+        return Err(CacheFault::Large.into());
+    }
+    let form = read_magic(bytes)?;
+    let cache = read_counted(alloc, bytes)?;
+    Ok((form, cache))
+}
+
+/// The entries that those of a file stand for.
+#[tactic(auto)]
+fn read_told(alloc: Global, bytes: &[u8]) -> Result<Cache, CacheRefusal>
+    ensures { JudgesOrNoMemory result (first_cache_fault bytes.now) (IsCacheOf bytes.now) }
+{
+    let (form, cache) = read_standing(alloc, bytes)?;
+    match form {
+        UnitForm::First => Ok(second_form(alloc, &cache)?),
+        UnitForm::Second => Ok(cache),
+    }
+}
+
+impl Cache {
+    /// The cache that a file in one of the two forms has. Of a file of the first form an entry counts under the second
+    /// form of its unit, and is dropped where its key is no unit in the first form.
+    ///
+    /// # Errors
+    ///
+    /// The first fault in the order of the file, or memory ran out.
+    ///
+    /// Cost: linear in the number of bytes, but for what is sorted of each invariant, and what it costs to read a unit
+    /// of the first form. A count takes no memory before the entries that it counts are there.
+    pub fn read(alloc: Global, bytes: &[u8]) -> Result<Cache, CacheRefusal>
+        // It is read where no test of the list fails; a fault is that of the first test that does.
+        ensures judged { JudgesOrNoMemory result (first_cache_fault bytes.now) (λ cache. cache ≡ entries_of bytes.now) }
+        // What is read is what the file has.
+        ensures spelled { IfOk result (λ cache. IsFileOf cache bytes.now) }
+        // A file of entries is read, in either form, unless memory runs out.
+        ensures only { (form : Form) (entries : List Entry) → IsCacheFile form entries bytes.now → GivesOnly result
+            (λ cache. cache ≡ entries_told form entries) }
+        // The first form of a unit stands for its key in the second form, and nothing else does.
+        ensures first { (unit : MethodUnit) → IsUnit unit → HasCounts First unit →
+            second_key (unit_spelling First unit) ≡ Some (unit_bytes unit) }
+        ensures firsts { IfOk result (λ _. form_of bytes.now ≡ First → AreFirst (entries_standing bytes.now)) }
+    {
+        read_told(alloc, bytes)
+    }
+}

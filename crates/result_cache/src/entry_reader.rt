@@ -1,0 +1,80 @@
+//! Entries, as they stand in a cache file.
+
+ghost use Rattle.std.specs.Prelude.{◌≡◌, ◌≤◌, ◌++◌, [], ◌∷◌, false, length};
+ghost use Rattle.cc_base.specs.Tests.{first_of, Judges, JudgesOrNoMemory};
+ghost use Rattle.result_cache.specs.CacheFile.{entry_field, entry_fields, invariant_field, key_field};
+ghost use Rattle.result_cache.specs.Entries.{IsInvariant, is_among, keys_of};
+ghost use Rattle.result_cache.specs.Parses.{IsRead};
+
+use crate::cache::Cache;
+use crate::cache_fault::{CacheFault, CacheRefusal};
+use crate::fields::read_sized;
+use crate::invariant_check::{check_invariant, fault_at};
+use cc_base::Refusal;
+use std::alloc::Global;
+
+/// The key at this offset, where these entries have no such key, and the offset after it.
+#[tactic(auto, using(cc_base::proofs::TestLemmas::appended, cc_base::proofs::TestLemmas::first_tests), unfolding(crate::specs::CacheFile::key_field))]
+fn read_key<'a>(bytes: &'a [u8], at: u32, before: &Cache) -> Result<(&'a [u8], u32), CacheFault>
+    requires short { length bytes.now ≤ 2147483647 }
+    ensures { Judges result (first_of (key_field before.now bytes.now at).tests)
+        (λ read. IsRead bytes.now (key_field before.now bytes.now at) read.0.now read.1
+        × (is_among (keys_of before.now) read.0.now ≡ false)) }
+{
+    let (key, next) = read_sized(bytes, at)?;
+    if before.has(key) {
+        return Err(CacheFault::Form(at + 4));
+    }
+    Ok((key, next))
+}
+
+/// The bytes of an invariant at this offset, and the offset after them.
+#[tactic(auto, using(cc_base::proofs::TestLemmas::appended, cc_base::proofs::TestLemmas::first_tests, crate::proofs::InvariantRead::faulty, crate::proofs::InvariantRead::cut))]
+fn read_invariant(alloc: Global, bytes: &[u8], at: u32) -> Result<(&[u8], u32), CacheRefusal>
+    requires short { length bytes.now ≤ 2147483647 }
+    ensures { JudgesOrNoMemory result (first_of (invariant_field bytes.now at).tests)
+        (λ read. IsRead bytes.now (invariant_field bytes.now at) read.0.now read.1 × IsInvariant read.0.now) }
+{
+    let (invariant, next) = read_sized(bytes, at)?;
+    match check_invariant(alloc, invariant) {
+        Ok(()) => Ok((invariant, next)),
+        Err(Refusal::Bad(fault)) => Err(CacheFault::Form(at + 4 + fault_at(fault)).into()),
+        Err(Refusal::NoMemory) => Err(Refusal::NoMemory),
+    }
+}
+
+/// Adds the entry at this offset to those before it, and gives the offset after it.
+#[tactic(auto, using(cc_base::proofs::TestLemmas::appended, cc_base::proofs::TestLemmas::carried), unfolding(crate::specs::CacheFile::entry_field))]
+fn read_entry(alloc: Global, bytes: &[u8], at: u32, cache: &mut Cache) -> Result<u32, CacheRefusal>
+    requires short { length bytes.now ≤ 2147483647 }
+    ensures { JudgesOrNoMemory result (first_of (entry_field bytes.now cache.old at).tests)
+        (λ next. (cache.new ≡ cache.old ++ (entry_field bytes.now cache.old at).value ∷ [])
+        × (next ≡ (entry_field bytes.now cache.old at).next) × (next ≤ length bytes.now)) }
+{
+    let (key, at) = read_key(bytes, at, cache)?;
+    let (invariant, next) = read_invariant(alloc, bytes, at)?;
+    cache.add(key.to_vec(alloc)?, invariant.to_vec(alloc)?)?;
+    Ok(next)
+}
+
+/// So many entries from this offset on, and the offset after them.
+#[tactic(auto, using(crate::proofs::Counted::none_read, crate::proofs::Counted::all_read))]
+pub fn read_each(
+    alloc: Global,
+    bytes: &[u8],
+    start: u32,
+    count: u32,
+) -> Result<(Cache, u32), CacheRefusal>
+    requires short { length bytes.now ≤ 2147483647 }
+    requires inside { start ≤ length bytes.now }
+    ensures { JudgesOrNoMemory result (first_of (entry_fields count bytes.now start).tests)
+        (λ read. IsRead bytes.now (entry_fields count bytes.now start) read.0 read.1) }
+{
+    let mut cache = Cache::none(alloc);
+    let mut at = start;
+    for _entry in 0..count {
+        let next = read_entry(alloc, bytes, at, &mut cache)?;
+        at = next;
+    }
+    Ok((cache, at))
+}

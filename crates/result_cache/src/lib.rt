@@ -1,0 +1,15 @@
+//! Invariants of units, kept in a file between calls.
+#![tactic(auto)]
+
+mod cache;
+mod cache_fault;
+mod cache_reader;
+mod cache_writer;
+mod entry_reader;
+mod fields;
+mod first_form;
+mod invariant_check;
+
+pub use cache::Cache;
+pub use cache_fault::{CacheFault, CacheRefusal};
+pub use invariant_check::check_invariant;
