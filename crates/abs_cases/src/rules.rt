@@ -46,6 +46,8 @@ impl AbsRules {
             "assume-not" => state_steps::assume(alloc, state, argument, false)?,
             "load" => state_steps::load(alloc, state, argument)?,
             "store" => state_steps::store(alloc, state, argument)?,
+            "load-at" => state_steps::load_at(alloc, state, argument)?,
+            "store-at" => state_steps::store_at(alloc, state, argument)?,
             "new-array" => state_steps::new_array(alloc, state, argument)?,
             "forget" => state_steps::forget(alloc, state, argument)?,
             "norm" => *state = state.norm(alloc)?,

@@ -4,4 +4,7 @@
 
 mod steps;
 
-pub use steps::{arith, assume, compare, forget, join, load, new_array, push, put, store, widen};
+pub use steps::{
+    arith, assume, compare, forget, join, load, load_at, new_array, push, put, store, store_at,
+    widen,
+};

@@ -1,11 +1,16 @@
 //! The rules that change a state.
 
-use abs_state::AbsState;
+ghost use Rattle.std.specs.Prelude.{OnOk};
+ghost use Rattle.std.specs.Option.{ForSome};
+ghost use Rattle.state_facts.specs.Forms.{HasReference};
+
+use abs_state::{AbsState, Var};
 use cil_model::{BinOp, Place};
-use domain_api::Lattice;
+use domain_api::{Expr, Lattice};
 use rule_text::{
     Failure, comparison, expr, may_operate, operator, place, reference, three_words, two_words,
 };
+use state_obligations::Condition;
 use state_text::{
     are_alike, has_number, has_reference, has_value, has_variable, has_variables, is_array_place,
     is_comparison, state, value,
@@ -99,6 +104,48 @@ pub fn store(alloc: Global, state: &mut AbsState, argument: &str) -> Result<(), 
     let (r, at, e) = three_words(argument)?;
     let (r, at, e) = (reference(r)?, expr(at)?, expr(e)?);
     has_reference(alloc, state, r)?;
+    has_number(alloc, state, at)?;
+    has_number(alloc, state, e)?;
+    state.store(r, at, e)?;
+    Ok(())
+}
+
+/// The reference and the index of the address that a variable has.
+fn address_in(state: &AbsState, i: u32) -> Result<(u32, Expr), Failure> {
+    match state.var_at(u64::from(i)) {
+        Some(Var::Address(r, at)) => Ok((r, at)),
+        Some(Var::Number(_) | Var::Reference(_) | Var::Text) | None => {
+            Err(Failure::Unmet("the variable has an address"))
+        }
+    }
+}
+
+/// Assumes that an item is there: the reference is not null, and the index is one of its indexes.
+fn assume_item(alloc: Global, state: &mut AbsState, r: u32, at: Expr) -> Result<(), Failure>
+    ensures { OnOk result (ForSome state.new (λ known. HasReference known r)) }
+{
+    has_reference(alloc, state, r)?;
+    state.assume_met(Condition::NullUse(r))?;
+    has_number(alloc, state, at)?;
+    state.assume_met(Condition::Lower(at))?;
+    has_value(alloc, state, Var::Address(r, at))?;
+    state.assume_met(Condition::Upper(r, at))?;
+    has_reference(alloc, state, r)
+}
+
+/// `load-at 1`: pushes the item whose address variable 1 has. That it is there is assumed.
+pub fn load_at(alloc: Global, state: &mut AbsState, argument: &str) -> Result<(), Failure> {
+    let (r, at) = address_in(state, read_count(argument)?)?;
+    assume_item(alloc, state, r, at)?;
+    state.load(r, at)?;
+    Ok(())
+}
+
+/// `store-at 1 7`: stores a number into the item whose address variable 1 has. That it is there is assumed first.
+pub fn store_at(alloc: Global, state: &mut AbsState, argument: &str) -> Result<(), Failure> {
+    let (i, e) = two_words(argument)?;
+    let ((r, at), e) = (address_in(state, read_count(i)?)?, expr(e)?);
+    assume_item(alloc, state, r, at)?;
     has_number(alloc, state, at)?;
     has_number(alloc, state, e)?;
     state.store(r, at, e)?;

@@ -90,6 +90,10 @@ pub fn has_value(alloc: Global, state: &AbsState, v: Var) -> Result<(), Failure>
         Var::Number(e) => has_number(alloc, state, e),
         Var::Reference(r) => has_reference(alloc, state, r),
         Var::Text => Ok(()),
+        Var::Address(r, index) => {
+            has_reference(alloc, state, r)?;
+            has_number(alloc, state, index)
+        }
     }
 }
 

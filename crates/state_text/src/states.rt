@@ -16,10 +16,18 @@ fn is_reference(word: &str) -> bool {
     word == "null" || word.starts_with('r')
 }
 
-/// The value of a word: a number, a reference, or `text`.
+/// The reference and the index in the word of an address, as `r1[s2+1]`.
+fn address_words(word: &str) -> Option<(&str, &str)> {
+    word.strip_suffix(']')?.split_once('[')
+}
+
+/// The value of a word: a number, a reference, an address, or `text`.
 pub fn value(word: &str) -> Result<Var, Failure> {
     if word == "text" {
         return Ok(Var::Text);
+    }
+    if let Some((r, index)) = address_words(word) {
+        return Ok(Var::Address(reference(r)?, expr(index)?));
     }
     if is_reference(word) {
         return Ok(Var::Reference(reference(word)?));
@@ -27,15 +35,23 @@ pub fn value(word: &str) -> Result<Var, Failure> {
     Ok(Var::Number(expr(word)?))
 }
 
+/// The number of a word. A range is a new symbol.
+fn number(parts: &mut Parts, word: &str) -> Result<Expr, Failure> {
+    match operand(&mut parts.ranges, word)? {
+        Some(e) => Ok(e),
+        None => Err(Failure::Unread("a variable")),
+    }
+}
+
 /// What the word of a variable stands for. A range is a new symbol.
 fn variable(parts: &mut Parts, word: &str) -> Result<Var, Failure> {
+    if let Some((r, index)) = address_words(word) {
+        return Ok(Var::Address(reference(r)?, number(parts, index)?));
+    }
     if word == "text" || is_reference(word) {
         return value(word);
     }
-    match operand(&mut parts.ranges, word)? {
-        Some(e) => Ok(Var::Number(e)),
-        None => Err(Failure::Unread("a variable")),
-    }
+    Ok(Var::Number(number(parts, word)?))
 }
 
 /// Reads the variables of a state.
@@ -177,12 +193,21 @@ pub fn state(alloc: Global, text: &str) -> Result<AbsState, Failure> {
     }
 }
 
+/// Appends the address of an item.
+fn append_address(text: &mut String, r: u32, index: Expr) -> Result<(), AllocError> {
+    append_reference(text, r)?;
+    text.push('[')?;
+    append_number(text, index)?;
+    text.push(']')
+}
+
 /// Appends what a variable has.
 pub fn append_value(text: &mut String, v: Var) -> Result<(), AllocError> {
     match v {
         Var::Number(e) => append_number(text, e),
         Var::Reference(r) => append_reference(text, r),
         Var::Text => text.push_str("text"),
+        Var::Address(r, index) => append_address(text, r, index),
     }
 }
 

@@ -117,16 +117,17 @@ fn tested(tree: &Tree, args: &[Place], of: Place) -> Result<(), Failure>
     }
 }
 
-/// The type of a variable. That of null is told, and so is that of a text, which no tree reads.
+/// The type of a variable. That of null is told. No tree reads a text or an address, which count as no value.
 fn type_of(state: &AbsState, v: Var, of_null: Place) -> Place {
     match v {
         Var::Number(_) => Place::Int,
         Var::Reference(r) if r != 0 && state.reached() => state.place(r),
-        _ => of_null,
+        Var::Reference(_) => of_null,
+        Var::Text | Var::Address(..) => Place::Void,
     }
 }
 
-/// The types of the variables from one on, up to a text. Where nothing is reached, some numbers.
+/// The types of the variables from one on. Where nothing is reached, some numbers.
 fn types_from(
     alloc: Global,
     state: &AbsState,
@@ -136,7 +137,6 @@ fn types_from(
     let mut types = Vec::new(alloc);
     for i in first..first.saturating_add(256) {
         match state.var_at(u64::from(i)) {
-            Some(Var::Text) => break,
             Some(v) => types.push(type_of(state, v, of_null))?,
             None if state.reached() => break,
             None => types.push(Place::Int)?,
