@@ -222,12 +222,6 @@ public static class Bodies
         return a[1];
     }
 
-    // Bodies::CountInPlace | N9 opcode | `a[i]++` or `a[i] += n`, which takes the item's address
-    public static void CountInPlace(int[] counts, int d)
-    {
-        counts[d]++;
-    }
-
     // Bodies::Copy | N9 opcode | a call of an object's method or property
     public static int Copy(int[] a)
     {

