@@ -140,9 +140,6 @@ pub record AreTold (entries : List Entry) (place : ℕ) (seconds : List Entry) :
   pub same : seconds ≡ filter_map second_entry (take place entries)
   pub firsts : AreFirst (take place entries)
 
-pub told_none : (entries : List Entry) → AreTold entries 0 []
-told_none entries = record { same = refl; firsts = tt }
-
 pub told_next : (entries : List Entry) (place : ℕ) (key invariant : List ℕ) (old new : List Entry) → AreEntries entries
     → slice_get entries place ≡ Some (key, invariant) → AreTold entries place old
     → new ≡ option_map_or (λ k. with_entry old k invariant) (second_key key) old
