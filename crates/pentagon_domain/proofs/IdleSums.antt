@@ -1,11 +1,10 @@
 -- Sums that are no greater than a gap need no look.
-use Rattle.std.proofs.Common.{◌≡◌, ℕ, suc, ℤ, ◌+ℤ◌, ◌≤ℤ◌, ◌+◌, ◌<◌, ◌≤◌, ◌==◌, true, false, List, [], ◌∷◌, length, get_or, drop, Option, Some, None, refl, sym, ◌∙◌, arith, add-one, drop-cons, inl, inr}
+use Rattle.std.proofs.Common.{◌≡◌, ℕ, suc, ℤ, ◌+ℤ◌, ◌≤ℤ◌, ◌+◌, ◌<◌, ◌==◌, true, false, List, [], ◌∷◌, length, get_or, drop, Option, Some, None, refl, sym, ◌∙◌, arith, add-one, drop-cons, inl, inr}
 use Rattle.std.specs.Prelude.{int_le, option_map, option_and_then, Bool, not, Result, Ok, Err, OnOk, OnErr}
 use Rattle.std.specs.Int.{int_max}
 use Rattle.std.specs.List.{AllByRecursion}
 use Rattle.std.proofs.lemmas.Bool.{cases_Bool}
 use Rattle.std.proofs.lemmas.Bool.Decides.{nat_tests}
-use Rattle.std.proofs.lemmas.List.{drop_all}
 use Rattle.std.proofs.lemmas.Int.{ints}
 use Rattle.domain_api.specs.Order.{greater_gap}
 use Rattle.pentagon_domain.specs.declared.bound_row.BoundRow.{BoundRow}

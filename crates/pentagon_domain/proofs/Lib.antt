@@ -1,8 +1,11 @@
 pub mod Searches
 pub mod Puts
+pub mod Known
 pub mod TargetLists
 pub mod Neighbours
 pub mod Cuts
 pub mod IdleSums
 pub mod Reaches
 pub mod Allowing
+pub mod TightGaps
+pub mod TightTests

@@ -157,12 +157,17 @@ pub gap_with_same : (rows : List BoundRow) (between : ℤ) (s t : ℕ) → s ≡
 unfolding gap_with
 gap_with_same rows between s t same = rw (eq-eqb s t same) refl
 
+-- What is written of a symbol, after all bounds from s.
+pub direct_row : (rows : List BoundRow) (s t : ℕ) (start first : Option ℤ) → AreBounds rows → start ≡ None
+    → first ≡ greater_gap start (reach (pos 0) (rows_from rows s) t) → first ≡ option_and_then cut (stored rows s t)
+direct_row rows s t start first form nothing then_is = (rw nothing at then_is) ∙ reach_first rows s t form
+
 -- What is written of a symbol that is not s, after all bounds from s and all behind them.
 pub gap_row : (rows : List BoundRow) (s t : ℕ) (start first last : Option ℤ) → AreBounds rows → s ≢ t → start ≡ None
     → first ≡ greater_gap start (reach (pos 0) (rows_from rows s) t) → last ≡ greater_gap first (option_and_then cut (greatest_sum rows (rows_from rows s) t))
     → last ≡ gap rows s t
 gap_row rows s t start first last form apart nothing then_is last_is =
-    let first_is : first ≡ option_and_then cut (stored rows s t) = (rw nothing at then_is) ∙ reach_first rows s t form in
+    let first_is = direct_row rows s t start first form nothing then_is in
     (rw first_is at last_is) ∙ gap_apart rows s t apart
 
 -- ---- one place of a slice of gaps

@@ -150,7 +150,7 @@ skipped row rows s t other =
       | inr apart ↦ rw apart refl
     ]
 
-hit : (row : BoundRow) (rows : List BoundRow) (s t : ℕ) → is_of row s t ≡ true → stored (row ∷ rows) s t ≡ Some row.k
+pub hit : (row : BoundRow) (rows : List BoundRow) (s t : ℕ) → is_of row s t ≡ true → stored (row ∷ rows) s t ≡ Some row.k
 hit row rows s t is = let parts = and_parts (row.s == s) (row.t == t) is in rw (parts.0, parts.1) refl
 
 pub before_other : (row : BoundRow) (s t : ℕ) → is_before row s t ≡ true → is_of row s t ≡ false
@@ -169,7 +169,7 @@ stored_found (row ∷ rows) s t d found =
 pub later_other : (row later : BoundRow) (s t : ℕ) → is_before row s t ≡ false → is_of row s t ≡ false → is_before row later.s later.t ≡ true → is_of later s t ≡ false
 later_other row later s t behind other before = grind (arith, nat_tests)
 
-nothing_later : (row : BoundRow) (rows : List BoundRow) (s t : ℕ) → is_before row s t ≡ false → is_of row s t ≡ false → AllByRecursion (StandsBefore row) rows → stored rows s t ≡ None
+pub nothing_later : (row : BoundRow) (rows : List BoundRow) (s t : ℕ) → is_before row s t ≡ false → is_of row s t ≡ false → AllByRecursion (StandsBefore row) rows → stored rows s t ≡ None
 nothing_later row [] s t behind other later = refl
 nothing_later row (next ∷ rows) s t behind other later =
     skipped next rows s t (later_other row next s t behind other later.0) ∙ nothing_later row rows s t behind other later.1

@@ -26,6 +26,10 @@ gap rows s t = if s == t then Some (pos 0) else option_and_then cut (exact_gap r
 unfoldable pub gap_with : List BoundRow → ℤ → ℕ → ℕ → Option ℤ
 gap_with rows between s t = if s == t then Some (pos 0) else option_and_then cut (greater_gap (exact_gap rows s t) (Some between))
 
+-- The gap of two symbols by the bound that is stored of them alone.
+unfoldable pub direct_gap : List BoundRow → ℕ → ℕ → Option ℤ
+direct_gap rows s t = if s == t then Some (pos 0) else option_and_then cut (stored rows s t)
+
 -- The number of t lies at least so far above that of s.
 abbrev pub LiesAbove : (ℕ → ℤ) → ℕ → ℕ → ℤ → Type 0
 LiesAbove number s t k = (number s +ℤ k) ≤ℤ number t

@@ -4,4 +4,5 @@ pub mod Targets
 pub mod Gaps
 pub mod Reach
 pub mod Most
+pub mod Tight
 pub mod Laws

@@ -25,6 +25,11 @@ abbrev pub AreBounds : List BoundRow → Type 0
 AreBounds [] = Unit {0}
 AreBounds (row ∷ rows) = IsTrue (is_pair row.s row.t) × AllByRecursion (StandsBefore row) rows × AreBounds rows
 
+-- The rows that are there, or none.
+abbrev pub rows_in : Option (List BoundRow) → List BoundRow
+rows_in None = []
+rows_in (Some rows) = rows
+
 -- The rows that go from a symbol.
 abbrev pub rows_from : List BoundRow → ℕ → List BoundRow
 rows_from rows s = filter (λ row. row.s == s) rows

@@ -1,69 +1,82 @@
 //! The bounds that are stored.
 
-ghost use Rattle.std.specs.Prelude.{◌≡◌, ℕ, ℤ, [], ◌↔◌, IsSome, IfSome, IsTrue, IfOk, OnOk, OnErr};
+ghost use Rattle.std.specs.Prelude.{◌≡◌, ℕ, ℤ, [], ◌↔◌, IsSome, IfSome, IsTrue, IfOk, OnOk, OnErr, option_map};
 
 use crate::bound_row::BoundRow;
-use crate::changes::{add, add_all};
+use crate::ends::{Ends, are_within};
 use crate::forms::{are_bounds, are_same};
-use crate::idle::{most_of, most_with};
-use crate::search::{rows_from, rows_to, stored};
-use crate::targets::by_target;
+use crate::orders::Orders;
+use crate::search::stored;
+use crate::shared::change;
+use crate::tight::are_tight;
 use domain_api::NoMemory;
 use std::alloc::Global;
 use std::marker::Model;
+use std::rc::Rc;
+
+/// Of fewer bounds it is not noted whether they are tight: what stands behind them is soon looked at.
+const FEW: usize = 24;
 
 /// Bounds of symbols, each s + k <= t of two distinct symbols other than 0, and for two symbols one at most.
 /// Contracts see them as their rows: each pair of symbols once, rising by the first, then by the second.
+///
+/// Copies share the rows, until one of them changes.
 #[derive(Drop)]
 pub struct Bounds {
-    rows: Vec<BoundRow>,
-    /// The same rows, rising by the second symbol, then by the first.
-    targets: Vec<BoundRow>,
-    /// No constant of them is greater.
-    most: i64,
+    alloc: Global,
+    /// None where no room was taken yet.
+    orders: Option<Rc<Orders>>,
+    /// Ends over which the rows are tight, where it was tested.
+    tight: Option<Rc<Vec<Ends>>>,
 }
 
 impl Model for Bounds {
-    ghost use Rattle.std.specs.Prelude.{List};
+    ghost use Rattle.std.specs.Prelude.{List, IfSome, option_map};
     ghost use Rattle.pentagon_domain.specs.declared.bound_row.BoundRow.{BoundRow};
-    ghost use Rattle.pentagon_domain.specs.Rows.{AreBounds};
-    ghost use Rattle.pentagon_domain.specs.Most.{AreUpTo};
-    ghost use Rattle.pentagon_domain.specs.Targets.{AreTargets};
+    ghost use Rattle.pentagon_domain.specs.Rows.{rows_in};
+    ghost use Rattle.pentagon_domain.specs.Tight.{AreTightOver};
 
     ghost Value = { List BoundRow };
 
-    ghost view = { λ bounds. bounds.rows.items };
+    ghost view = { λ bounds. rows_in (option_map (λ orders. orders.value) bounds.orders) };
 
-    ghost invariant = { λ bounds.
-        AreBounds bounds.rows.items × AreTargets bounds.targets.items bounds.rows.items
-        × AreUpTo bounds.most bounds.rows.items };
+    ghost invariant = { λ bounds. IfSome bounds.tight (λ ends.
+        AreTightOver ends.value.items (rows_in (option_map (λ orders. orders.value) bounds.orders))) };
 }
 
 impl Bounds {
-    ghost use Rattle.pentagon_domain.specs.Rows.{AreBounds, rows_from, rows_to, stored, with_bound, with_bounds};
+    ghost use Rattle.pentagon_domain.specs.Rows.{AreBounds, rows_in, rows_from, rows_to, stored, with_bound, with_bounds};
     ghost use Rattle.pentagon_domain.specs.Gaps.{Allows, LiesAbove};
     ghost use Rattle.pentagon_domain.specs.Most.{AreUpTo};
+    ghost use Rattle.pentagon_domain.specs.Tight.{AreTightOver};
 
     /// No bound. Takes no memory.
     pub fn new(alloc: Global) -> Bounds
         ensures { result ≡ [] }
     {
         Bounds {
-            rows: Vec::new(alloc),
-            targets: Vec::new(alloc),
-            most: i64::MIN,
+            alloc,
+            orders: None,
+            tight: None,
         }
+    }
+
+    /// Bounds with these rows.
+    fn of(alloc: Global, orders: Orders) -> Result<Bounds, NoMemory>
+        ensures { IfOk result (λ bounds. bounds ≡ orders) }
+    {
+        Ok(Bounds {
+            alloc,
+            orders: Some(Rc::new(alloc, orders)?),
+            tight: None,
+        })
     }
 
     /// No bound, and room for so many.
     pub fn with_capacity(alloc: Global, count: usize) -> Result<Bounds, NoMemory>
         ensures { IfOk result (λ bounds. bounds ≡ []) }
     {
-        Ok(Bounds {
-            rows: Vec::with_capacity(alloc, count)?,
-            targets: Vec::with_capacity(alloc, count)?,
-            most: i64::MIN,
-        })
+        Bounds::of(alloc, Orders::with_capacity(alloc, count)?)
     }
 
     /// The bounds of these rows. None exactly where they are not in order, each pair once, or one is of equal symbols
@@ -83,13 +96,20 @@ impl Bounds {
         requires { AreBounds rows.items }
         ensures { IfOk result (λ bounds. bounds ≡ rows.items) }
     {
-        let targets = by_target(alloc, &rows)?;
-        let most = most_of(&rows, i64::MIN);
-        Ok(Bounds {
-            rows,
-            targets,
-            most,
-        })
+        if rows.is_empty() {
+            return Ok(Bounds::new(alloc));
+        }
+        Bounds::of(alloc, Orders::of(alloc, rows)?)
+    }
+
+    /// The rows in both orders, where there is room for some.
+    fn orders(&self) -> Option<&Orders>
+        ensures { self.now ≡ rows_in (option_map (λ orders. orders.now) result) }
+    {
+        match &self.orders {
+            None => None,
+            Some(orders) => Some(orders.as_ref()),
+        }
     }
 
     /// A number that no constant exceeds.
@@ -97,7 +117,10 @@ impl Bounds {
         ensures value { AreUpTo result self.now }
         ensures form { AreBounds self.now }
     {
-        self.most
+        match self.orders() {
+            None => i64::MIN,
+            Some(orders) => orders.most(),
+        }
     }
 
     /// The rows, rising by the first symbol, then by the second. Takes no memory.
@@ -105,7 +128,10 @@ impl Bounds {
         ensures value { result.now ≡ self.now }
         ensures form { AreBounds self.now }
     {
-        &self.rows
+        match self.orders() {
+            None => &[],
+            Some(orders) => orders.rows(),
+        }
     }
 
     /// The rows that go from a symbol, rising by the second one. They are found by halving; no memory is taken.
@@ -113,7 +139,10 @@ impl Bounds {
         ensures value { result.now ≡ rows_from self.now s }
         ensures form { AreBounds self.now }
     {
-        rows_from(&self.rows, s)
+        match self.orders() {
+            None => &[],
+            Some(orders) => orders.rows_from(s),
+        }
     }
 
     /// The rows that go to a symbol, rising by the first one. They are found by halving; no memory is taken.
@@ -121,21 +150,24 @@ impl Bounds {
         ensures value { result.now ≡ rows_to self.now t }
         ensures form { AreBounds self.now }
     {
-        rows_to(&self.targets, t)
+        match self.orders() {
+            None => &[],
+            Some(orders) => orders.rows_to(t),
+        }
     }
 
     /// The constant of the bound of two symbols. It is found by halving; no memory is taken.
     pub fn stored(&self, s: u32, t: u32) -> Option<i64>
         ensures { result ≡ stored self.now s t }
     {
-        stored(&self.rows, s, t)
+        stored(self.rows(), s, t)
     }
 
     /// Adds the bound s + k <= t; of two bounds of the same symbols the greater k is kept. Where the
     /// symbols are equal or one is 0, nothing is stored. After an error nothing has changed.
     ///
     /// Its places, by the first symbol and by the second, are found by halving, and a new row moves those behind it in
-    /// both orders.
+    /// both orders. Where the rows are shared, they are copied first. A bound that is known already costs one search.
     #[tactic(auto, using(crate::proofs::Allowing::with_bound_allows))]
     pub fn add_bound(&mut self, s: u32, t: u32, k: i64) -> Result<(), NoMemory>
         ensures value { OnOk result (self.new ≡ with_bound self.old s t k) }
@@ -143,9 +175,7 @@ impl Bounds {
         ensures keeps { OnOk result ((number : ℕ → ℤ) → Allows self.old number → LiesAbove number s t k →
             Allows self.new number) }
     {
-        let row = BoundRow { s, t, k };
-        self.most = most_with(self.most, &row);
-        add(&mut self.rows, &mut self.targets, row)
+        self.add_all(&[BoundRow { s, t, k }])
     }
 
     /// Adds bounds one after another, each as `add_bound` does. After an error nothing has changed: room for all is
@@ -154,25 +184,89 @@ impl Bounds {
         ensures value { OnOk result (self.new ≡ with_bounds self.old bounds.now) }
         ensures unchanged { OnErr result (self.new ≡ self.old) }
     {
-        self.most = most_of(bounds, self.most);
-        add_all(&mut self.rows, &mut self.targets, bounds)
+        if self.know_all(bounds) {
+            return Ok(());
+        }
+        self.tight = None;
+        change(self.alloc, &mut self.orders, bounds)
     }
 
-    /// The same bounds again. Costs one pass.
+    /// Returns whether the bound of a row is stored, or one that tells more, or none is.
+    #[tactic(auto, using(crate::proofs::Known::known_already))]
+    fn knows(&self, row: &BoundRow) -> bool
+        ensures { IsTrue result → with_bound self.now row.now.s row.now.t row.now.k ≡ self.now }
+    {
+        if !row.is_pair() {
+            return true;
+        }
+        match stored(self.rows(), row.s, row.t) {
+            None => false,
+            Some(k) => row.k <= k,
+        }
+    }
+
+    /// Returns whether this is so of each of these bounds.
+    #[tactic(auto, using(crate::proofs::TargetLists::additions))]
+    fn know_all(&self, bounds: &[BoundRow]) -> bool
+        ensures { IsTrue result → with_bounds self.now bounds.now ≡ self.now }
+    {
+        for bound in bounds {
+            if !self.knows(bound) {
+                return false;
+            }
+        }
+        true
+    }
+
+    /// The same bounds again. Takes no memory: the rows are shared.
     pub fn copy(&self, alloc: Global) -> Result<Bounds, NoMemory>
         ensures { IfOk result (λ again. again ≡ self.now) }
     {
         Ok(Bounds {
-            rows: Vec::from_slice(alloc, self.rows.as_slice())?,
-            targets: Vec::from_slice(alloc, self.targets.as_slice())?,
-            most: self.most,
+            alloc,
+            orders: self.orders.clone()?,
+            tight: self.tight.clone()?,
         })
+    }
+
+    /// Ends over which the bounds are tight, that of symbol s at place s, where such are noted.
+    pub fn tight_over(&self) -> Option<&[Ends]>
+        ensures { IfSome result (λ ends. AreTightOver ends.now self.now) }
+    {
+        match &self.tight {
+            None => None,
+            Some(ends) => Some(ends.as_ref().as_slice()),
+        }
+    }
+
+    /// The same bounds, of which it is noted whether they are tight over ends, that of symbol s at place s. Where that
+    /// is noted of wider ends already, or where there are few bounds, nothing is done. Else it costs a pass over the
+    /// bounds behind each bound, and memory for a gap of each symbol.
+    pub fn noted(self, alloc: Global, ends: Vec<Ends>) -> Result<Bounds, NoMemory>
+        ensures { IfOk result (λ bounds. bounds ≡ self) }
+    {
+        if self.rows().len() < FEW || self.is_noted(&ends) || !are_tight(alloc, &self, &ends)? {
+            return Ok(self);
+        }
+        Ok(Bounds {
+            alloc: self.alloc,
+            orders: self.orders,
+            tight: Some(Rc::new(alloc, ends)?),
+        })
+    }
+
+    /// Returns whether it is noted that the bounds are tight over ends that are as wide.
+    fn is_noted(&self, ends: &[Ends]) -> bool {
+        match self.tight_over() {
+            None => false,
+            Some(wide) => are_within(wide, ends),
+        }
     }
 
     /// Returns whether both are the same bounds. Takes no memory, and costs one pass at most.
     pub fn same(&self, other: &Bounds) -> bool
         ensures { IsTrue result ↔ (self.now ≡ other.now) }
     {
-        are_same(&self.rows, &other.rows)
+        are_same(self.rows(), other.rows())
     }
 }

@@ -1,10 +1,11 @@
 //! Bounds that are being put together.
 
-ghost use Rattle.std.specs.Prelude.{◌≡◌, [], IfOk, OnOk, OnErr};
+ghost use Rattle.std.specs.Prelude.{◌≡◌, [], ◌↔◌, IfOk, IsTrue, OnOk, OnErr};
 
 use crate::bound_row::BoundRow;
 use crate::bounds::Bounds;
 use crate::changes::put;
+use crate::forms::are_same;
 use domain_api::NoMemory;
 use std::alloc::Global;
 use std::marker::Model;
@@ -40,6 +41,22 @@ impl BoundsBuilder {
         BoundsBuilder {
             rows: Vec::new(alloc),
         }
+    }
+
+    /// No bound, and room for so many.
+    pub fn with_capacity(alloc: Global, count: usize) -> Result<BoundsBuilder, NoMemory>
+        ensures { IfOk result (λ bounds. bounds ≡ []) }
+    {
+        Ok(BoundsBuilder {
+            rows: Vec::with_capacity(alloc, count)?,
+        })
+    }
+
+    /// Returns whether the rows are those of bounds. Takes no memory, and costs one pass at most.
+    pub fn is_same(&self, bounds: &Bounds) -> bool
+        ensures { IsTrue result ↔ (self.now ≡ bounds.now) }
+    {
+        are_same(&self.rows, bounds.rows())
     }
 
     /// Adds the bound s + k <= t; of two bounds of the same symbols the greater k is kept. Where the symbols are equal

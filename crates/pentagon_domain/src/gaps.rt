@@ -135,7 +135,7 @@ fn clear(gaps: &mut [Option<i64>])
 
 impl Bounds {
     ghost use Rattle.pentagon_domain.specs.Rows.{AreBounds, rows_from, stored};
-    ghost use Rattle.pentagon_domain.specs.Gaps.{Allows, LiesAbove, gap, gap_with};
+    ghost use Rattle.pentagon_domain.specs.Gaps.{Allows, LiesAbove, direct_gap, gap, gap_with};
 
     /// The gap of two symbols where from the number of the first to that of the second it is known to be
     /// `between` at least, as by their ranges: the greatest of what is stored, of two stored constants behind each
@@ -169,8 +169,21 @@ impl Bounds {
         }
     }
 
+    /// Writes what is stored from a symbol, as gaps: into each place that to the symbol of the place, 0 to itself. Of
+    /// bounds that are tight over ends, these are all gaps that the ends do not tell. It costs the length of `gaps` and
+    /// the bounds from the symbol, and takes no memory.
+    pub fn stored_from(&self, s: u32, gaps: &mut [Option<i64>])
+        ensures { EachIndex gaps.new (λ t. slice_index_or gaps.new t None ≡ direct_gap self.now s t) }
+    {
+        clear(gaps);
+        raise_all(gaps, self.rows_from(s), 0);
+        if (s as usize) < gaps.len() {
+            gaps[s as usize] = Some(0);
+        }
+    }
+
     /// The rows that go from a symbol, where it is guessed where they are.
-    fn rows_near(&self, s: u32, guess: &mut Guess) -> &[BoundRow]
+    pub(crate) fn rows_near(&self, s: u32, guess: &mut Guess) -> &[BoundRow]
         ensures value { result.now ≡ rows_from self.now s }
         ensures form { AreBounds self.now }
     {

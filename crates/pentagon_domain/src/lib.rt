@@ -5,16 +5,21 @@ mod bound_row;
 mod bounds;
 mod builder;
 mod changes;
+mod ends;
 mod forms;
 mod gaps;
 mod idle;
 mod order;
+mod orders;
 mod search;
+mod shared;
 mod targets;
+mod tight;
 
 pub use bound_row::BoundRow;
 pub use bounds::Bounds;
 pub use builder::BoundsBuilder;
+pub use ends::Ends;
 pub use gaps::raised_gap;
 
 #[cfg(test)]

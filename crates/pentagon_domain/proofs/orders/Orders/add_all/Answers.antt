@@ -1,6 +1,6 @@
 use Rattle.std.proofs.Common.{rules}
 use Rattle.pentagon_domain.proofs.IdleSums.{bounds_up_to}
-use Rattle.pentagon_domain.proofs.bounds.Bounds.add_all.Goals as goal
+use Rattle.pentagon_domain.proofs.orders.Orders.add_all.Goals as goal
 
 pub invariant_of-self : goal.invariant_of-self
 invariant_of-self c = (
