@@ -1,28 +1,29 @@
--- Two symbols of which bounds tell nothing: what their ranges tell is told by the new ranges too.
-use Rattle.std.proofs.Common.{◌≡◌, ◌≢◌, ℕ, zero, suc, ◌<◌, ℤ, pos, ◌+ℤ◌, ◌-ℤ◌, ◌≤ℤ◌, false, ◌||◌, List, [], ◌∷◌, length, get_or, slice_get, Option, Some, None, int_lt, int_le, refl, sym, ap, ◌∙◌, arith}
+-- What the new ranges tell is not stored.
+use Rattle.std.proofs.Common.{◌≡◌, ℕ, zero, suc, ◌<◌, ℤ, pos, ◌+ℤ◌, ◌-ℤ◌, ◌≤ℤ◌, true, false, ◌||◌, List, [], ◌∷◌, length, get_or, slice_get, Option, Some, None, int_lt, int_le, refl, sym, ap, ◌∙◌, inl, inr, arith}
 use Rattle.std.specs.Prelude.{option_map, option_and_then}
 use Rattle.std.specs.Int.{int_min, int_max}
 use Rattle.std.specs.Ordering.{int_eq}
-use Rattle.std.proofs.lemmas.Bool.{cond_both}
+use Rattle.std.proofs.lemmas.Bool.{cases_Bool, cases_eq, cond_both}
 use Rattle.std.proofs.lemmas.Int.{ints, clamps}
 use Rattle.cil_model.specs.Arithmetic.{LEAST, GREATEST}
 use Rattle.domain_api.specs.Order.{greater_gap}
 use Rattle.interval_domain.specs.Interval as intervals
 use Rattle.interval_domain.specs.Interval.{Interval, is_hole, lost, lowered, one, raised, without}
 use Rattle.pentagon_domain.specs.declared.bound_row.BoundRow.{BoundRow}
-use Rattle.pentagon_domain.specs.Gaps as by_bounds
 use Rattle.pentagon_domain.specs.Gaps.{cut}
-use Rattle.pentagon_domain.proofs.Reaches.{gap_same, gap_with_apart}
 use Rattle.number_spans.specs.Spans.{moved_hole}
 use Rattle.number_spans.specs.Stored.{range_without}
 use Rattle.number_spans.specs.declared.span.Span.{Span}
 use Rattle.symbolic_values.specs.declared.pairs.Key.{Key}
 use Rattle.symbolic_values.specs.Pairing.{origin}
-use Rattle.merged_numbers.specs.Known as side_rule
-use Rattle.merged_numbers.proofs.RowLaws.{key_symbol}
-use Rattle.merged_numbers.specs.Known.{IsRow, Known, between, distance, gap_or, int32_of, int32_or_full, int32s, met, term_gap, term_of}
-use Rattle.merged_numbers.specs.Spans.{but_for, stored}
-use Rattle.merged_numbers.specs.Merging.{own_gap, own_span, put_before, ranges_of, told, with_gap}
+use Rattle.merged_numbers.specs.declared.rule.Rule.{Rule}
+use Rattle.merged_numbers.specs.declared.rule.Rule.TheVariants.{Join, Widening}
+use Rattle.merged_numbers.specs.declared.term.Term.{Term}
+use Rattle.merged_numbers.specs.Known.{Known, between, distance, int32_of, int32s, met, term_gap, term_of}
+use Rattle.merged_numbers.specs.Rows.{Tells, beside}
+use Rattle.merged_numbers.specs.Spans.{but_for, gap_by, stored}
+use Rattle.merged_numbers.specs.Merging.{is_told, merged_gap, own_gap, own_span, put_before, ranges_of, told, with_gap}
+use Rattle.merged_numbers.proofs.RowLaws.{gap_itself, get_or-any}
 
 -- ---- a range that is stored lies within its span
 
@@ -124,65 +125,113 @@ not_less : (m n : ℤ) → n ≤ℤ m → int_lt m n ≡ false
 not_less m n h = grind (arith, ints)
 
 -- A gap that says no more than ranges is not stored.
-says_no_more : (apart more : ℤ) (i j : ℕ) (known : Option ℤ) (rows : List BoundRow) → ((k : ℤ) → known ≡ Some k → (k +ℤ more) ≤ℤ apart)
-    → with_gap apart i j (option_map (λ k. k +ℤ more) known) rows ≡ rows
-says_no_more apart more i j None rows less = refl
-says_no_more apart more i j (Some k) rows less = rw (not_less apart (k +ℤ more) (less k refl)) refl
+says_no_more : (apart k : ℤ) (i j : ℕ) (rows : List BoundRow) → k ≤ℤ apart → with_gap apart i j (Some k) rows ≡ rows
+says_no_more apart k i j rows less = rw (not_less apart k less) refl
 
-nothing_known : (bounds : List BoundRow) (s t : ℕ) → by_bounds.gap bounds s t ≡ None → s ≢ t
-nothing_known bounds s t none same = by (sym none ∙ gap_same bounds s t same)
-  where
-    by : None ≡ Some (pos 0) → ⊥
-    by e = cc
+lesser_too : (k c more apart : ℤ) → int_lt k c ≡ true → (c +ℤ more) ≤ℤ apart → (k +ℤ more) ≤ℤ apart
+lesser_too k c more apart less upto = grind (arith, ints)
 
-by_ranges : (bounds : List BoundRow) (apart : ℤ) (s t : ℕ) (k : ℤ) → by_bounds.gap bounds s t ≡ None → by_bounds.gap_with bounds apart s t ≡ Some k → k ≤ℤ apart
-by_ranges bounds apart s t k none is =
-    let whole : greater_gap (by_bounds.gap bounds s t) (cut apart) ≡ by_bounds.gap_with bounds apart s t = gap_with_apart bounds apart s t (nothing_known bounds s t none) in
-    let alone : cut apart ≡ by_bounds.gap_with bounds apart s t = rw none at whole in
-    cut_below apart k (alone ∙ is)
+-- So a gap that says no more may be left out of one that is stored.
+left_out : (apart more : ℤ) (i j : ℕ) (known known_more : Option ℤ) (rows : List BoundRow) → ((k : ℤ) → known_more ≡ Some k → (k +ℤ more) ≤ℤ apart)
+    → with_gap apart i j (option_map (λ k. k +ℤ more) (greater_gap known known_more)) rows ≡ with_gap apart i j (option_map (λ k. k +ℤ more) known) rows
+left_out apart more i j None None rows less = refl
+left_out apart more i j (Some k) None rows less = refl
+left_out apart more i j None (Some c) rows less = says_no_more apart (c +ℤ more) i j rows (less c refl)
+left_out apart more i j (Some k) (Some c) rows less =
+    elim (cases_Bool (int_lt k c)) [
+      | inl lower ↦
+          rw lower
+          (says_no_more apart (c +ℤ more) i j rows (less c refl)
+          ∙ sym (says_no_more apart (k +ℤ more) i j rows (lesser_too k c more apart lower (less c refl))))
+      | inr higher ↦ rw higher refl
+    ]
 
-gap_apart : (a : Known) (u v : Key) (r q : Option Span) (from to : Interval) (k : ℤ) → slice_get a.spans u.s ≡ r → slice_get a.spans v.s ≡ q
-    → by_bounds.gap a.bounds u.s v.s ≡ None → IsInside (own_span a u).lo (own_span a u).hi from → IsInside (own_span a v).lo (own_span a v).hi to
-    → gap_or a.bounds (distance r q) u.s v.s ≡ Some k → (k +ℤ (v.first -ℤ u.first)) ≤ℤ (to.lo -ℤ from.hi)
-gap_apart a u v None q from to k first second none one other is = absurd (by (sym none ∙ is))
-  where
-    by : None ≡ Some k → ⊥
-    by e = cc
-gap_apart a u v (Some r) None from to k first second none one other is = absurd (by (sym none ∙ is))
-  where
-    by : None ≡ Some k → ⊥
-    by e = cc
-gap_apart a u v (Some r) (Some q) from to k first second none one other is =
-    let less = by_ranges a.bounds (q.lo -ℤ r.hi) u.s v.s k none is in
+spans_left_out : (apart more : ℤ) (i j : ℕ) (known between : Option ℤ) (rows : List BoundRow) → ((d : ℤ) → between ≡ Some d → (d +ℤ more) ≤ℤ apart)
+    → with_gap apart i j (option_map (λ k. k +ℤ more) (beside known between)) rows ≡ with_gap apart i j (option_map (λ k. k +ℤ more) known) rows
+spans_left_out apart more i j known None rows less = refl
+spans_left_out apart more i j known (Some d) rows less =
+    let upto = less d refl in
+    left_out apart more i j known (cut d) rows (λ k is. let below = cut_below d k is in omega (arith, ints, upto, below))
+
+-- What the spans of two keys tell, their new ranges tell.
+ranges_tell : (a : Known) (u v : Key) (r q : Option Span) (from to : Interval) (d : ℤ) → slice_get a.spans u.s ≡ r → slice_get a.spans v.s ≡ q
+    → IsInside (own_span a u).lo (own_span a u).hi from → IsInside (own_span a v).lo (own_span a v).hi to → distance r q ≡ Some d
+    → (d +ℤ (v.first -ℤ u.first)) ≤ℤ (to.lo -ℤ from.hi)
+ranges_tell a u v None q from to d first second one other is = absurd cc
+ranges_tell a u v (Some r) None from to d first second one other is = absurd cc
+ranges_tell a u v (Some r) (Some q) from to d first second one other is =
+    let same : (q.lo -ℤ r.hi) ≡ d = some_same (q.lo -ℤ r.hi) d is in
     let high = (own_inside a u r first).1 in
     let low = (own_inside a v q second).0 in
     let upto = one.upto in
     let above = other.from in
-    omega (arith, ints, less, high, low, upto, above)
+    omega (arith, ints, same, high, low, upto, above)
+  where
+    some_same : (k l : ℤ) → Some k ≡ Some l → k ≡ l
+    some_same k l is = cc
 
--- Where bounds tell nothing of two symbols, nothing is stored of their keys.
-pub nothing_more : (a : Known) (keys : List Key) (rs : List Interval) (i j : ℕ) (rows : List BoundRow) → Some rs ≡ ranges_of (own_span a) keys
-    → i < length keys → j < length keys → by_bounds.gap a.bounds (get_or keys i origin).s (get_or keys j origin).s ≡ None
-    → with_gap (told rs i j) i j (own_gap a (get_or keys i origin) (get_or keys j origin)) rows ≡ rows
-unfolding term_gap side_rule.gap between
-nothing_more a keys rs i j rows is first second none =
+spelled : (a : Known) (s t : ℕ) (d : ℤ) → between a s t ≡ Some d → distance (slice_get a.spans s) (slice_get a.spans t) ≡ Some d
+unfolding between
+spelled a s t d is = is
+
+-- What tells a gap beside the spans is stored in the place of the gap.
+pub by_row : (a : Known) (keys : List Key) (rs : List Interval) (i j : ℕ) (rows : List BoundRow) (known : Option ℤ) → Some rs ≡ ranges_of (own_span a) keys
+    → i < length keys → j < length keys → Tells a (get_or keys i origin).s (get_or keys j origin).s known
+    → with_gap (told rs i j) i j (option_map (λ k. k +ℤ ((get_or keys j origin).first -ℤ (get_or keys i origin).first)) known) rows
+    ≡ with_gap (told rs i j) i j (own_gap a (get_or keys i origin) (get_or keys j origin)) rows
+unfolding term_gap
+by_row a keys rs i j rows known is first second tells =
     let u : Key = get_or keys i origin in
     let v : Key = get_or keys j origin in
+    let more : ℤ = v.first -ℤ u.first in
+    let stores : Option ℤ → List BoundRow = (λ gap. with_gap (told rs i j) i j (option_map (λ k. k +ℤ more) gap) rows) in
     let from = some_inside (own_span a u).lo (own_span a u).hi (stored (own_span a u)) (get_or rs i (one (pos 0))) (stored_inside (own_span a u))
     (range_at (own_span a) keys rs i is first) in
     let to = some_inside (own_span a v).lo (own_span a v).hi (stored (own_span a v)) (get_or rs j (one (pos 0))) (stored_inside (own_span a v))
     (range_at (own_span a) keys rs j is second) in
-    says_no_more (told rs i j) (v.first -ℤ u.first) i j (gap_or a.bounds (distance (slice_get a.spans u.s) (slice_get a.spans v.s)) u.s v.s) rows
-    (λ k told_is. gap_apart a u v (slice_get a.spans u.s) (slice_get a.spans v.s) (get_or rs i (one (pos 0))) (get_or rs j (one (pos 0))) k refl refl none from to told_is)
+    elim (cases_eq u.s v.s) [
+      | inl same ↦ ap stores (tells.itself same ∙ gap_itself a u.s v.s same)
+      | inr apart ↦
+          sym (spans_left_out (told rs i j) more i j known (between a u.s v.s) rows
+          (λ d told_is. ranges_tell a u v (slice_get a.spans u.s) (slice_get a.spans v.s) (get_or rs i (one (pos 0))) (get_or rs j (one (pos 0))) d refl refl from to (spelled a u.s v.s d told_is)))
+          ∙ ap stores (tells.others apart)
+    ]
 
--- So it is of the keys at two places, where a row tells that bounds say nothing.
-pub nothing_in_row : (a : Known) (keys : List Key) (rs : List Interval) (i j : ℕ) (rows : List BoundRow) (row : List (Option ℤ)) (d : Key)
-    → Some rs ≡ ranges_of (own_span a) keys → i < length keys → j < length keys → IsRow row a.bounds (get_or keys i origin).s
-    → ((get_or keys j d).s < length row) × (get_or row (get_or keys j d).s None ≡ None)
-    → rows ≡ with_gap (told rs i j) i j (own_gap a (get_or keys i origin) (get_or keys j origin)) rows
-nothing_in_row a keys rs i j rows row d is first second row_is unknown =
-    let same : (get_or keys j d).s ≡ (get_or keys j origin).s = key_symbol keys j d second in
-    let here : get_or row (get_or keys j d).s None ≡ by_bounds.gap a.bounds (get_or keys i origin).s (get_or keys j d).s = row_is (get_or keys j d).s unknown.0 in
-    let none : by_bounds.gap a.bounds (get_or keys i origin).s (get_or keys j origin).s ≡ None =
-    ap (by_bounds.gap a.bounds (get_or keys i origin).s) (sym same) ∙ sym here ∙ unknown.1 in
-    sym (nothing_more a keys rs i j rows is first second none)
+-- So it is of the keys at two places.
+pub pair_by_row : (a : Known) (keys : List Key) (rs : List Interval) (i j : ℕ) (d e : Key) (known gap : Option ℤ) (before after : List BoundRow)
+    → Some rs ≡ ranges_of (own_span a) keys → i < length keys → j < length keys → Tells a (get_or keys i d).s (get_or keys j e).s known
+    → gap ≡ option_map (λ k. k +ℤ ((get_or keys j e).first -ℤ (get_or keys i d).first)) known → after ≡ with_gap (told rs i j) i j gap before
+    → after ≡ with_gap (told rs i j) i j (own_gap a (get_or keys i origin) (get_or keys j origin)) before
+pair_by_row a keys rs i j d e known gap before after is first second tells gap_is after_is =
+    let from : get_or keys i d ≡ get_or keys i origin = get_or-any keys i d origin first in
+    let to : get_or keys j e ≡ get_or keys j origin = get_or-any keys j e origin second in
+    after_is ∙ ap (λ g. with_gap (told rs i j) i j g before) (rw (from, to) at gap_is)
+    ∙ by_row a keys rs i j before known is first second (rw (from, to) at tells)
+
+-- ---- two sides
+
+-- Where the first gap says no more than ranges, both as one say no more.
+first_told : (rule : Rule) (apart : ℤ) (i j : ℕ) (a b : Option ℤ) (rows : List BoundRow) → is_told apart a ≡ true → with_gap apart i j (gap_by rule a b) rows ≡ rows
+first_told Join apart i j None b rows is = refl
+first_told Join apart i j (Some k) None rows is = refl
+first_told Join apart i j (Some k) (Some l) rows is =
+    cond_both (int_lt l k) (Some l) (Some k) (λ gap. with_gap apart i j gap rows ≡ rows) (λ less. says_no_more apart l i j rows (grind (arith, ints)))
+    (λ more. says_no_more apart k i j rows (omega (arith, ints, is)))
+first_told Widening apart i j None b rows is = refl
+first_told Widening apart i j (Some k) None rows is = refl
+first_told Widening apart i j (Some k) (Some l) rows is =
+    cond_both (int_lt l k) None (Some k) (λ gap. with_gap apart i j gap rows ≡ rows) (λ less. refl)
+    (λ more. says_no_more apart k i j rows (omega (arith, ints, is)))
+
+-- So nothing is stored of the keys at two places.
+pub pair_told : (rule : Rule) (a b : Known) (keys : List Key) (i j : ℕ) (d e : Key) (x y : Term) (apart : ℤ) (left : Option ℤ) (rows : List BoundRow)
+    → i < length keys → j < length keys → x ≡ term_of true (get_or keys i d) → y ≡ term_of true (get_or keys j e) → left ≡ term_gap a x y
+    → is_told apart left ≡ true → rows ≡ with_gap apart i j (merged_gap rule a b (get_or keys i origin) (get_or keys j origin)) rows
+pair_told rule a b keys i j d e x y apart left rows first second x_is y_is is told_is =
+    let u : Key = get_or keys i origin in
+    let v : Key = get_or keys j origin in
+    let from : x ≡ term_of true u = x_is ∙ ap (term_of true) (get_or-any keys i d origin first) in
+    let to : y ≡ term_of true v = y_is ∙ ap (term_of true) (get_or-any keys j e origin second) in
+    let known : left ≡ term_gap a (term_of true u) (term_of true v) = rw (from, to) at is in
+    sym (first_told rule apart i j (term_gap a (term_of true u) (term_of true v)) (term_gap b (term_of false u) (term_of false v)) rows
+    (ap (is_told apart) (sym known) ∙ told_is))

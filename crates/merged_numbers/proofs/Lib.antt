@@ -5,8 +5,11 @@ pub mod CutLaws
 pub mod OutcomeLaws
 pub mod RangeLists
 pub mod RowLaws
+pub mod TightLaws
 pub mod InclusionLaws
 pub mod FormLaws
 pub mod ApartLaws
+pub mod Fronts
+pub mod OwnLaws
 pub mod Laws
 pub mod RuleLaws

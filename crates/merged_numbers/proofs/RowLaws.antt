@@ -1,14 +1,18 @@
 -- Gaps that are read from a row.
-use Rattle.std.proofs.Common.{◌≡◌, ℕ, zero, suc, ◌+◌, ◌<◌, ◌≤◌, ℤ, pos, List, [], ◌∷◌, length, get_or, Option, Some, None, refl, sym, ap, ◌∙◌, add-one, arith}
+use Rattle.std.proofs.Common.{◌≡◌, ◌≢◌, ℕ, zero, suc, ◌+◌, ◌<◌, ◌≤◌, ℤ, pos, List, [], ◌∷◌, length, get_or, Option, Some, None, refl, sym, ap, subst, ◌∙◌, add-one, arith}
+use Rattle.std.specs.Prelude.{EachIndex}
 use Rattle.interval_domain.specs.Interval.{Interval}
 use Rattle.pentagon_domain.specs.Gaps as by_bounds
 use Rattle.symbolic_values.specs.declared.pairs.Key.{Key}
 use Rattle.symbolic_values.specs.Pairing.{origin}
 use Rattle.merged_numbers.specs.Merging.{steps, told, with_gap, row_of, rows_of}
 use Rattle.pentagon_domain.specs.declared.bound_row.BoundRow.{BoundRow}
-use Rattle.pentagon_domain.proofs.Reaches.{gap_same, gap_with_same}
+use Rattle.pentagon_domain.specs.Gaps.{direct_gap}
+use Rattle.pentagon_domain.proofs.Reaches.{gap_same, gap_with_apart, gap_with_same}
+use Rattle.pentagon_domain.proofs.TightGaps.{direct_same}
 use Rattle.merged_numbers.specs.Known as side_rule
-use Rattle.merged_numbers.specs.Known.{IsRow, Known, gap_or, between}
+use Rattle.merged_numbers.specs.Known.{Known, gap_or, between}
+use Rattle.merged_numbers.specs.Rows.{IsRow, IsTight, Tells, beside}
 
 or_same : (bounds : List BoundRow) (apart : Option ℤ) (s t : ℕ) → s ≡ t → Some (pos 0) ≡ gap_or bounds apart s t
 or_same bounds None s t same = sym (gap_same bounds s t same)
@@ -19,9 +23,42 @@ pub gap_itself : (side : Known) (s t : ℕ) → s ≡ t → Some (pos 0) ≡ sid
 unfolding side_rule.gap
 gap_itself side s t same = or_same side.bounds (between side s t) s t same
 
+-- ---- what is written tells what is known
+
+with_spans : (bounds : List BoundRow) (apart : Option ℤ) (s t : ℕ) → s ≢ t → beside (by_bounds.gap bounds s t) apart ≡ gap_or bounds apart s t
+with_spans bounds None s t other = refl
+with_spans bounds (Some n) s t other = gap_with_apart bounds n s t other
+
+-- A gap by bounds alone does.
+pub gap_tells : (side : Known) (s t : ℕ) (known : Option ℤ) → known ≡ by_bounds.gap side.bounds s t → Tells side s t known
+unfolding side_rule.gap
+gap_tells side s t known is = record {
+  itself = λ same. is ∙ gap_same side.bounds s t same;
+  others = λ other. ap (λ k. beside k (between side s t)) is ∙ with_spans side.bounds (between side s t) s t other;
+}
+
+pub gaps_tell : (side : Known) (s : ℕ) (row : List (Option ℤ)) → EachIndex row (λ t. get_or row t None ≡ by_bounds.gap side.bounds s t) → IsRow row side s
+gaps_tell side s row are = λ t inside. gap_tells side s t (get_or row t None) (are t inside)
+
+-- What is stored does, where the state is tight.
+pub stored_tells : (side : Known) (s t : ℕ) (known : Option ℤ) → IsTight side → known ≡ direct_gap side.bounds s t → Tells side s t known
+stored_tells side s t known tight is = record {
+  itself = λ same. is ∙ direct_same side.bounds s t same;
+  others = λ other. ap (λ k. beside k (between side s t)) is ∙ tight.stored s t other;
+}
+
+pub all_stored_tell : (side : Known) (s : ℕ) (row : List (Option ℤ)) → IsTight side → EachIndex row (λ t. get_or row t None ≡ direct_gap side.bounds s t)
+    → IsRow row side s
+all_stored_tell side s row tight are = λ t inside. stored_tells side s t (get_or row t None) tight (are t inside)
+
+-- Beside the spans, what tells what is known is what is known.
+pub told_gap : (side : Known) (s t : ℕ) (known found : Option ℤ) → s ≢ t → Tells side s t known → found ≡ beside known (between side s t)
+    → found ≡ side_rule.gap side s t
+told_gap side s t known found other tells is = is ∙ tells.others other
+
 -- ---- rows of bounds, one gap after another
 
-get_or-any : {X : Type 0} (xs : List X) (i : ℕ) (d e : X) → i < length xs → get_or xs i d ≡ get_or xs i e
+pub get_or-any : {X : Type 0} (xs : List X) (i : ℕ) (d e : X) → i < length xs → get_or xs i d ≡ get_or xs i e
 get_or-any [] i d e inside = absurd (omega (arith, inside))
 get_or-any (x ∷ xs) zero d e inside = refl
 get_or-any (x ∷ xs) (suc i) d e inside = get_or-any xs i d e (omega (arith, inside))
@@ -56,9 +93,9 @@ rows_end gap keys rs i start rows upto past so_far =
     let end : i ≡ length keys = omega (arith, upto, past) in
     so_far ∙ ap (λ n. rows_of gap keys rs n start) end
 
--- The row from a symbol that is the same.
-pub row_of_same : (row : List (Option ℤ)) (bounds : List BoundRow) (s t : ℕ) → s ≡ t → IsRow row bounds s → IsRow row bounds t
-row_of_same row bounds s t same is = λ i inside. is i inside ∙ ap (λ k. by_bounds.gap bounds k i) same
+-- The row of a symbol that is the same.
+pub row_of_same : (row : List (Option ℤ)) (side : Known) (s t : ℕ) → s ≡ t → IsRow row side s → IsRow row side t
+row_of_same row side s t same is = subst (λ k. IsRow row side k) same is
 
 -- The symbols of the key at a place.
 pub key_symbol : (keys : List Key) (i : ℕ) (d : Key) → i < length keys → (get_or keys i d).s ≡ (get_or keys i origin).s

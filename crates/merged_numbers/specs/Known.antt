@@ -1,5 +1,5 @@
 -- What a state knows of numbers, and what this says of terms.
-use Rattle.std.specs.Prelude.{◌≡◌, ℕ, ℤ, pos, ◌+ℤ◌, ◌-ℤ◌, Bool, List, slice_get, slice_index_or, EachIndex, Option, Some, None, option_map, if◌then◌else◌}
+use Rattle.std.specs.Prelude.{ℕ, ℤ, pos, ◌+ℤ◌, ◌-ℤ◌, Bool, List, slice_get, Option, Some, None, option_map, if◌then◌else◌}
 use Rattle.std.specs.Int.{int_min, int_max}
 use Rattle.cil_model.specs.Arithmetic.{LEAST, GREATEST}
 use Rattle.interval_domain.specs.Interval.{inner_hole, is_hole}
@@ -70,10 +70,6 @@ gap_or bounds (Some apart) s t = by_bounds.gap_with bounds apart s t
 -- How far the second symbol is known to lie above the first.
 unfoldable pub gap : Known → ℕ → ℕ → Option ℤ
 gap side s t = gap_or side.bounds (between side s t) s t
-
--- How far each symbol is known to lie above one, by bounds alone.
-abbrev pub IsRow : List (Option ℤ) → List BoundRow → ℕ → Type 0
-IsRow row bounds s = EachIndex row (λ t. slice_index_or row t None ≡ by_bounds.gap bounds s t)
 
 -- How far the second term is known to lie above the first.
 unfoldable pub term_gap : Known → Term → Term → Option ℤ

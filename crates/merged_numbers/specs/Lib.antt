@@ -1,5 +1,7 @@
 pub mod Known
+pub mod Rows
 pub mod Spans
 pub mod Merging
+pub mod Own
 pub mod Meaning
 pub mod Included

@@ -38,6 +38,11 @@ steps step (suc n) x = step n (steps step n x)
 abbrev pub told : List Interval → ℕ → ℕ → ℤ
 told ranges i j = (get_or ranges j (one (pos 0))).lo -ℤ (get_or ranges i (one (pos 0))).hi
 
+-- A gap says no more than ranges that lie so far apart.
+abbrev pub is_told : ℤ → Option ℤ → Bool
+is_told apart None = true
+is_told apart (Some k) = int_le k apart
+
 -- The constant of a bound has 64 bits.
 abbrev pub is_constant : ℤ → Bool
 is_constant k = int_le (negsuc 9223372036854775807) k && int_le k (pos 9223372036854775807)

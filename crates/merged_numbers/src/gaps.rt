@@ -3,9 +3,10 @@
 ghost use Rattle.std.specs.Prelude.{◌≡◌, ◌<◌, ◌+◌, ◌+ℤ◌, ◌-ℤ◌, length, None, option_map, IfOk, OnOk};
 ghost use Rattle.number_spans.specs.Sizes.{IsWide};
 ghost use Rattle.merged_numbers.specs.Known as rule;
-ghost use Rattle.merged_numbers.specs.Known.{IsRow, known};
+ghost use Rattle.merged_numbers.specs.Known.{between, known};
 ghost use Rattle.merged_numbers.specs.Meaning.{AreMeasured};
-ghost use Rattle.merged_numbers.specs.Merging.{told, with_gap};
+ghost use Rattle.merged_numbers.specs.Merging.{is_told, told, with_gap};
+ghost use Rattle.merged_numbers.specs.Rows.{IsRow, Tells, beside};
 
 use crate::measures::{minus, more};
 use crate::side::Side;
@@ -16,7 +17,7 @@ use pentagon_domain::{BoundsBuilder, raised_gap};
 use std::alloc::AllocError;
 
 /// A gap with a constant more, which may leave 64 bits.
-fn moved(gap: Option<i64>, from: i128, to: i128) -> Option<i128>
+pub(crate) fn moved(gap: Option<i64>, from: i128, to: i128) -> Option<i128>
     requires first { IsWide from }
     requires second { IsWide to }
     ensures { result ≡ option_map (λ k. k +ℤ (to -ℤ from)) gap }
@@ -40,32 +41,47 @@ impl Side<'_> {
         }
     }
 
-    /// The same, where the gaps from the first symbol by bounds alone were written.
-    #[tactic(auto, using(crate::proofs::RowLaws::gap_itself), unfolding(crate::specs::Known::gap))]
+    /// What a row has of a symbol. One that has no place is looked for.
+    #[tactic(auto, using(crate::proofs::RowLaws::gap_tells))]
+    pub(crate) fn known_by_row(&self, row: &[Option<i64>], s: u32, t: u32) -> Option<i64>
+        requires { IsRow row.now (known self.now) s }
+        ensures { Tells (known self.now) s t result }
+    {
+        match row.get(t as usize) {
+            None => self.bounds.gap(s, t),
+            Some(gap) => *gap,
+        }
+    }
+
+    /// What a gap and the spans tell.
+    fn beside(&self, gap: Option<i64>, s: u32, t: u32) -> Option<i64>
+        requires { AreMeasured self.now.spans.now }
+        ensures { result ≡ beside gap (between (known self.now) s t) }
+    {
+        match self.between(s, t) {
+            None => gap,
+            Some(apart) => raised_gap(gap, apart),
+        }
+    }
+
+    /// How far the second symbol is known to lie above the first, by the row of the first.
+    #[tactic(auto, using(crate::proofs::RowLaws::gap_itself, crate::proofs::RowLaws::told_gap))]
     fn gap_by_row(&self, row: &[Option<i64>], s: u32, t: u32) -> Option<i64>
         requires measured { AreMeasured self.now.spans.now }
-        requires row { IsRow row.now self.now.bounds.now s }
+        requires row { IsRow row.now (known self.now) s }
         ensures { result ≡ rule.gap (known self.now) s t }
     {
         if s == t {
             return Some(0);
         }
-        let known = match row.get(t as usize) {
-            None => self.bounds.gap(s, t),
-            Some(gap) => *gap,
-        };
-        match self.between(s, t) {
-            None => known,
-            Some(apart) => raised_gap(known, apart),
-        }
+        self.beside(self.known_by_row(row, s, t), s, t)
     }
 
-    /// How far the second term is known to lie above the first, where the gaps from the symbol of the first by bounds
-    /// alone were written.
+    /// How far the second term is known to lie above the first, by the row of the first one's symbol.
     #[tactic(auto, unfolding(crate::specs::Known::term_gap))]
     pub(crate) fn term_gap(&self, row: &[Option<i64>], x: Term, y: Term) -> Option<i128>
         requires measured { AreMeasured self.now.spans.now }
-        requires row { IsRow row.now self.now.bounds.now x.sym }
+        requires row { IsRow row.now (known self.now) x.sym }
         requires first { IsWide x.k }
         requires second { IsWide y.k }
         ensures { result ≡ rule.term_gap (known self.now) x y }
@@ -85,10 +101,22 @@ fn symbol_at(place: usize) -> Result<u32, NoMemory>
 }
 
 /// How far two ranges lie apart.
-fn apart(from: Range, to: Range) -> i128
+pub(crate) fn apart(from: Range, to: Range) -> i128
     ensures { result ≡ to.lo -ℤ from.hi }
 {
     i128::from(to.lo()) - i128::from(from.hi())
+}
+
+/// Returns whether a gap of the symbols at two places says no more than their ranges.
+pub(crate) fn is_told(ranges: &[Range], i: usize, j: usize, gap: Option<i128>) -> bool
+    requires first { i < length ranges.now }
+    requires second { j < length ranges.now }
+    ensures { result ≡ is_told (told ranges.now i j) gap }
+{
+    match gap {
+        None => true,
+        Some(gap) => gap <= apart(ranges[i], ranges[j]),
+    }
 }
 
 /// Adds the bound of the symbols at two places, where it says more than their ranges and has 64 bits.

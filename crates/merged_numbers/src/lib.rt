@@ -8,10 +8,12 @@ mod measures;
 mod merging;
 mod normal;
 mod outcome;
+mod own;
 mod ranges;
 mod rule;
 mod side;
 mod term;
+mod tight;
 
 pub use inclusion::includes;
 pub use merging::{joined, widened};

@@ -2,18 +2,20 @@
 
 ghost use Rattle.std.specs.Prelude.{◌≡◌, ◌<◌, length, get_or, None, option_map, true, false, IfOk, OnOk};
 ghost use Rattle.symbolic_values.specs.Pairing.{origin};
-ghost use Rattle.merged_numbers.specs.Known.{IsRow, known};
+ghost use Rattle.merged_numbers.specs.Known.{known};
 ghost use Rattle.merged_numbers.specs.Meaning.{AreMeasured, HaveForm, Keeps};
 ghost use Rattle.merged_numbers.specs.Merging as rule;
 ghost use Rattle.merged_numbers.specs.Merging.{merged_gap, merged_span, ranges_of, row_of, rows_of};
+ghost use Rattle.merged_numbers.specs.Rows.{IsRow};
 ghost use Rattle.merged_numbers.specs.Spans as spans;
 
-use crate::gaps::add_gap;
+use crate::gaps::{add_gap, is_told};
 use crate::outcome::Merged;
 use crate::ranges::stored;
 use crate::rule::Rule;
 use crate::side::Side;
 use crate::term::Term;
+use crate::tight::{built, noted};
 use domain_api::NoMemory;
 use interval_domain::Range;
 use number_spans::Span;
@@ -70,30 +72,45 @@ impl Sides<'_> {
         Ok(Some(ranges))
     }
 
-    /// How far the second key lies above the first on both sides, where the gaps from the first were written.
-    fn gap(
+    /// Adds the bound of the keys at two places, by the rows of the first. Where the first side knows no more than the
+    /// new ranges tell, both know no more.
+    #[tactic(auto, using(crate::proofs::ApartLaws::pair_told))]
+    fn add_pair(
         &self,
+        bounds: &mut BoundsBuilder,
+        ranges: &[Range],
         first: &[Option<i64>],
         second: &[Option<i64>],
-        from: &Key,
-        to: &Key,
-    ) -> Option<i128>
+        i: usize,
+        j: usize,
+    ) -> Result<(), NoMemory>
         requires one { AreMeasured self.now.a.spans.now }
         requires other { AreMeasured self.now.b.spans.now }
-        requires first { IsRow first.now self.now.a.bounds.now from.now.s }
-        requires second { IsRow second.now self.now.b.bounds.now from.now.t }
-        ensures { result ≡ merged_gap self.now.rule (known self.now.a) (known self.now.b) from.now to.now }
+        requires first { IsRow first.now (known self.now.a) (get_or self.now.keys.now i origin).s }
+        requires second { IsRow second.now (known self.now.b) (get_or self.now.keys.now i origin).t }
+        requires ranges { length ranges.now ≡ length self.now.keys.now }
+        requires from { i < length self.now.keys.now }
+        requires to { j < length self.now.keys.now }
+        ensures { OnOk result (bounds.new ≡ rule.with_gap (rule.told ranges.now i j) i j
+            (merged_gap self.now.rule (known self.now.a) (known self.now.b) (get_or self.now.keys.now i origin)
+            (get_or self.now.keys.now j origin)) bounds.old) }
     {
-        self.rule.gap(
-            self.a
-                .term_gap(first, Term::first_of(from), Term::first_of(to)),
-            self.b
-                .term_gap(second, Term::second_of(from), Term::second_of(to)),
-        )
+        let from = &self.keys[i];
+        let to = &self.keys[j];
+        let left = self
+            .a
+            .term_gap(first, Term::first_of(from), Term::first_of(to));
+        if is_told(ranges, i, j, left) {
+            return Ok(());
+        }
+        let right = self
+            .b
+            .term_gap(second, Term::second_of(from), Term::second_of(to));
+        add_gap(bounds, ranges, i, j, self.rule.gap(left, right))
     }
 
-    /// Adds the bounds from the key at a place to each key.
-    #[tactic(auto, using(crate::proofs::RowLaws::rows))]
+    /// Adds the bounds from the key at a place to each key, by the rows of its symbols.
+    #[tactic(auto, using(crate::proofs::RowLaws::own_rows))]
     fn add_row(
         &self,
         bounds: &mut BoundsBuilder,
@@ -104,16 +121,15 @@ impl Sides<'_> {
     ) -> Result<(), NoMemory>
         requires one { AreMeasured self.now.a.spans.now }
         requires other { AreMeasured self.now.b.spans.now }
-        requires first { IsRow first.now self.now.a.bounds.now (get_or self.now.keys.now i origin).s }
-        requires second { IsRow second.now self.now.b.bounds.now (get_or self.now.keys.now i origin).t }
+        requires first { IsRow first.now (known self.now.a) (get_or self.now.keys.now i origin).s }
+        requires second { IsRow second.now (known self.now.b) (get_or self.now.keys.now i origin).t }
         requires ranges { length ranges.now ≡ length self.now.keys.now }
         requires inside { i < length self.now.keys.now }
         ensures { OnOk result (bounds.new ≡ row_of (merged_gap self.now.rule (known self.now.a) (known self.now.b))
             self.now.keys.now ranges.now i (length self.now.keys.now) bounds.old) }
     {
         for j in 0..self.keys.len() {
-            let gap = self.gap(first, second, &self.keys[i], &self.keys[j]);
-            add_gap(bounds, ranges, i, j, gap)?;
+            self.add_pair(bounds, ranges, first, second, i, j)?;
         }
         Ok(())
     }
@@ -134,13 +150,13 @@ impl Sides<'_> {
     {
         let mut first = vec![in alloc; None; self.a.spans.len()]?;
         let mut second = vec![in alloc; None; self.b.spans.len()]?;
+        let is_first = self.a.is_tight();
+        let is_second = self.b.is_tight();
         for i in 0..self.keys.len() {
             self.a
-                .bounds
-                .gaps_from(self.keys[i].s, first.as_mut_slice());
+                .write_row(is_first, self.keys[i].s, first.as_mut_slice());
             self.b
-                .bounds
-                .gaps_from(self.keys[i].t, second.as_mut_slice());
+                .write_row(is_second, self.keys[i].t, second.as_mut_slice());
             self.add_row(bounds, ranges, first.as_slice(), second.as_slice(), i)?;
         }
         Ok(())
@@ -159,10 +175,9 @@ impl Sides<'_> {
         };
         let mut bounds = BoundsBuilder::new(alloc);
         self.add_rows(alloc, &mut bounds, ranges.as_slice())?;
-        Ok(Some(Merged {
-            ranges,
-            bounds: bounds.build()?,
-        }))
+        let bounds = built(alloc, bounds, self.a.bounds)?;
+        let bounds = noted(alloc, bounds, ranges.as_slice())?;
+        Ok(Some(Merged { ranges, bounds }))
     }
 }
 

@@ -1,23 +1,26 @@
 //! One state in the names of its own keys.
 
-ghost use Rattle.std.specs.Prelude.{◌≡◌, ◌<◌, true, length, get_or, slice_index_or, None, Some, option_map};
+ghost use Rattle.std.specs.Prelude.{◌≡◌, ◌<◌, ◌+ℤ◌, ◌-ℤ◌, [], true, length, get_or, Some, option_map};
 ghost use Rattle.std.specs.Prelude.{IfOk, IsTrue, OnOk};
 ghost use Rattle.symbolic_values.specs.Pairing.{origin};
-ghost use Rattle.merged_numbers.specs.Known.{IsRow, known};
+ghost use Rattle.merged_numbers.specs.Known.{known};
 ghost use Rattle.merged_numbers.specs.Meaning.{AreMeasured, HaveForm, Keeps};
+ghost use Rattle.merged_numbers.specs.Rows.{IsRow, IsTight};
 ghost use Rattle.merged_numbers.specs.Spans as spans;
 ghost use Rattle.merged_numbers.specs.Merging as rule;
 ghost use Rattle.merged_numbers.specs.Merging.{own_gap, own_span};
 
-use crate::gaps::add_gap;
+use crate::gaps::{add_gap, moved};
 use crate::outcome::Merged;
+use crate::own::{all_say_more, are_own};
 use crate::ranges::stored;
 use crate::side::Side;
 use crate::term::Term;
+use crate::tight::noted;
 use domain_api::NoMemory;
 use interval_domain::Range;
 use number_spans::Span;
-use pentagon_domain::BoundsBuilder;
+use pentagon_domain::{Bounds, BoundsBuilder};
 use std::alloc::Global;
 use symbolic_values::Key;
 
@@ -55,14 +58,11 @@ fn ranges_of(alloc: Global, keys: &[Key], a: &Side) -> Result<Option<Vec<Range>>
     Ok(Some(ranges))
 }
 
-/// Returns whether a row tells that bounds say nothing of a symbol.
-fn is_unknown(row: &[Option<i64>], t: u32) -> bool
-    ensures { IsTrue result → (t < length row.now) × (slice_index_or row.now t None ≡ None) }
+/// How far a key lies above another one, where the symbol of the first lies so far above that of the other.
+fn key_gap(gap: Option<i64>, from: &Key, to: &Key) -> Option<i128>
+    ensures { result ≡ option_map (λ k. k +ℤ (to.now.first -ℤ from.now.first)) gap }
 {
-    match row.get(t as usize) {
-        None => false,
-        Some(gap) => gap.is_none(),
-    }
+    moved(gap, Term::first_of(from).k, Term::first_of(to).k)
 }
 
 /// A state with keys of its own, and the range of each.
@@ -74,7 +74,8 @@ struct Own<'a> {
 }
 
 impl Own<'_> {
-    /// Adds the bound of the keys at two places. Where bounds say nothing of both symbols, the new ranges say all.
+    /// Adds the bound of the keys at two places, by the row of the first. The new ranges tell what the spans tell.
+    #[tactic(auto, using(crate::proofs::ApartLaws::pair_by_row))]
     fn add_pair(
         &self,
         bounds: &mut BoundsBuilder,
@@ -82,10 +83,9 @@ impl Own<'_> {
         i: usize,
         j: usize,
     ) -> Result<(), NoMemory>
-        requires measured { AreMeasured self.now.a.spans.now }
         requires ranges { Some self.now.ranges.now ≡ rule.ranges_of (own_span (known self.now.a)) self.now.keys.now }
         requires as_many { length self.now.ranges.now ≡ length self.now.keys.now }
-        requires row { IsRow row.now self.now.a.bounds.now (get_or self.now.keys.now i origin).s }
+        requires row { IsRow row.now (known self.now.a) (get_or self.now.keys.now i origin).s }
         requires first { i < length self.now.keys.now }
         requires second { j < length self.now.keys.now }
         ensures { OnOk result (bounds.new ≡ rule.with_gap (rule.told self.now.ranges.now i j) i j
@@ -94,16 +94,11 @@ impl Own<'_> {
     {
         let from = &self.keys[i];
         let to = &self.keys[j];
-        if is_unknown(row, to.s) {
-            return Ok(());
-        }
-        let gap = self
-            .a
-            .term_gap(row, Term::first_of(from), Term::first_of(to));
-        add_gap(bounds, self.ranges, i, j, gap)
+        let known = self.a.known_by_row(row, from.s, to.s);
+        add_gap(bounds, self.ranges, i, j, key_gap(known, from, to))
     }
 
-    /// Adds the bounds from the key at a place to each key, where the gaps from it were written.
+    /// Adds the bounds from the key at a place to each key, by the row of its symbol.
     #[tactic(auto, using(crate::proofs::RowLaws::own_rows))]
     fn add_row(
         &self,
@@ -111,10 +106,9 @@ impl Own<'_> {
         row: &[Option<i64>],
         i: usize,
     ) -> Result<(), NoMemory>
-        requires measured { AreMeasured self.now.a.spans.now }
         requires ranges { Some self.now.ranges.now ≡ rule.ranges_of (own_span (known self.now.a)) self.now.keys.now }
         requires as_many { length self.now.ranges.now ≡ length self.now.keys.now }
-        requires row { IsRow row.now self.now.a.bounds.now (get_or self.now.keys.now i origin).s }
+        requires row { IsRow row.now (known self.now.a) (get_or self.now.keys.now i origin).s }
         requires inside { i < length self.now.keys.now }
         ensures { OnOk result (bounds.new ≡ rule.row_of (own_gap (known self.now.a)) self.now.keys.now
             self.now.ranges.now i (length self.now.keys.now) bounds.old) }
@@ -127,8 +121,13 @@ impl Own<'_> {
 
     /// Adds the bounds from each key to each other.
     #[tactic(auto, using(crate::proofs::RowLaws::rows))]
-    fn add_rows(&self, alloc: Global, bounds: &mut BoundsBuilder) -> Result<(), NoMemory>
-        requires measured { AreMeasured self.now.a.spans.now }
+    fn add_rows(
+        &self,
+        alloc: Global,
+        is_tight: bool,
+        bounds: &mut BoundsBuilder,
+    ) -> Result<(), NoMemory>
+        requires tight { IsTrue is_tight → IsTight (known self.now.a) }
         requires ranges { Some self.now.ranges.now ≡ rule.ranges_of (own_span (known self.now.a)) self.now.keys.now }
         requires as_many { length self.now.ranges.now ≡ length self.now.keys.now }
         ensures { OnOk result (bounds.new ≡ rule.rows_of (own_gap (known self.now.a)) self.now.keys.now
@@ -136,10 +135,41 @@ impl Own<'_> {
     {
         let mut row = vec![in alloc; None; self.a.spans.len()]?;
         for i in 0..self.keys.len() {
-            self.a.bounds.gaps_from(self.keys[i].s, row.as_mut_slice());
+            self.a
+                .write_row(is_tight, self.keys[i].s, row.as_mut_slice());
             self.add_row(bounds, row.as_slice(), i)?;
         }
         Ok(())
+    }
+
+    /// Returns whether the bounds of a tight state are seen to stay as they are: its keys are its own symbols, and each
+    /// bound says more than the new ranges.
+    fn is_kept(&self) -> bool
+        requires tight { IsTight (known self.now.a) }
+        requires ranges { Some self.now.ranges.now ≡ rule.ranges_of (own_span (known self.now.a)) self.now.keys.now }
+        ensures { IsTrue result → self.now.a.bounds.now ≡ rule.rows_of (own_gap (known self.now.a)) self.now.keys.now
+            self.now.ranges.now (length self.now.keys.now) [] }
+    {
+        if !are_own(self.keys) {
+            return false;
+        }
+        all_say_more(self.ranges, self.a.bounds.rows())
+    }
+
+    /// The bounds from each key to each other. Where they stay as they are, their rows are shared.
+    fn bounds(&self, alloc: Global) -> Result<Bounds, NoMemory>
+        requires ranges { Some self.now.ranges.now ≡ rule.ranges_of (own_span (known self.now.a)) self.now.keys.now }
+        requires as_many { length self.now.ranges.now ≡ length self.now.keys.now }
+        ensures { IfOk result (λ bounds. bounds ≡ rule.rows_of (own_gap (known self.now.a)) self.now.keys.now
+            self.now.ranges.now (length self.now.keys.now) []) }
+    {
+        let is_tight = self.a.is_tight();
+        if is_tight && self.is_kept() {
+            return self.a.bounds.copy(alloc);
+        }
+        let mut bounds = BoundsBuilder::new(alloc);
+        self.add_rows(alloc, is_tight, &mut bounds)?;
+        noted(alloc, bounds.build()?, self.ranges)
     }
 }
 
@@ -152,17 +182,13 @@ fn in_own_names(alloc: Global, keys: &[Key], a: &Side) -> Result<Option<Merged>,
     let Some(ranges) = ranges_of(alloc, keys, a)? else {
         return Ok(None);
     };
-    let mut bounds = BoundsBuilder::new(alloc);
     let state = Own {
         keys,
         a: *a,
         ranges: ranges.as_slice(),
     };
-    state.add_rows(alloc, &mut bounds)?;
-    Ok(Some(Merged {
-        ranges,
-        bounds: bounds.build()?,
-    }))
+    let bounds = state.bounds(alloc)?;
+    Ok(Some(Merged { ranges, bounds }))
 }
 
 /// What one state knows of the new symbols that stand for its own keys: of each the int32 that its first use may be,

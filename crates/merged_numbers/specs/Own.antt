@@ -1,0 +1,28 @@
+-- A state in the names of its own symbols.
+use Rattle.std.specs.Prelude.{◌≡◌, ℕ, zero, suc, ◌+◌, ◌<◌, ℤ, pos, ◌-ℤ◌, Bool, false, ◌&&◌, int_lt, List, get_or, length, slice_get, Option, Some, None}
+use Rattle.interval_domain.specs.Interval.{Interval}
+use Rattle.pentagon_domain.specs.declared.bound_row.BoundRow.{BoundRow}
+use Rattle.symbolic_values.specs.declared.pairs.Key.{Key}
+use Rattle.symbolic_values.specs.Pairing.{origin}
+use Rattle.merged_numbers.specs.Merging.{is_constant}
+
+-- A key at a place stands for the symbol behind the place, with nothing added.
+pub record IsOwn (place : ℕ) (u : Key) : Type 0 where
+  pub symbol : u.s ≡ place + 1
+  pub plain : u.first ≡ pos 0
+
+abbrev pub AreOwn : List Key → Type 0
+AreOwn keys = (i : ℕ) → i < length keys → IsOwn i (get_or keys i origin)
+
+-- The range of a symbol, that of symbol s at place s - 1.
+abbrev pub range_of : List Interval → ℕ → Option Interval
+range_of ranges zero = None
+range_of ranges (suc s) = slice_get ranges s
+
+abbrev pub tells_more : Option Interval → Option Interval → ℤ → Bool
+tells_more (Some from) (Some to) k = int_lt (to.lo -ℤ from.hi) k && is_constant k
+tells_more _ _ k = false
+
+-- A bound says more than the ranges of its symbols.
+abbrev pub says_more : List Interval → BoundRow → Bool
+says_more ranges row = tells_more (range_of ranges row.s) (range_of ranges row.t) row.k

@@ -1,0 +1,100 @@
+//! Bounds that tell no more than what is stored and what the spans tell.
+
+ghost use Rattle.std.specs.Prelude.{◌≡◌, IfOk, IsTrue};
+ghost use Rattle.merged_numbers.specs.Known.{known};
+ghost use Rattle.merged_numbers.specs.Rows as rule;
+ghost use Rattle.merged_numbers.specs.Rows.{IsRow, IsTight};
+
+use crate::side::Side;
+use domain_api::NoMemory;
+use interval_domain::Range;
+use number_spans::Span;
+use pentagon_domain::{Bounds, BoundsBuilder, Ends};
+use std::alloc::Global;
+
+/// Returns whether a span lies between ends.
+fn is_between(ends: Ends, span: Span) -> bool
+    ensures { result ≡ rule.is_between ends span }
+{
+    i128::from(ends.lo) <= span.lo && span.hi <= i128::from(ends.hi)
+}
+
+/// Returns whether each symbol that has ends has a span between them.
+#[tactic(auto, using(crate::proofs::TightLaws::betweens))]
+fn are_between(ends: &[Ends], spans: &[Span]) -> bool
+    ensures { result ≡ rule.are_between ends.now spans.now }
+{
+    if spans.len() < ends.len() {
+        return false;
+    }
+    for s in 0..ends.len() {
+        if !is_between(ends[s], spans[s]) {
+            return false;
+        }
+    }
+    true
+}
+
+impl Side<'_> {
+    /// Returns whether beside the spans what is stored tells all that is known. It costs one pass over the spans.
+    #[tactic(auto, using(crate::proofs::TightLaws::nothing_tight, crate::proofs::TightLaws::over_tight))]
+    pub(crate) fn is_tight(&self) -> bool
+        ensures { IsTrue result → IsTight (known self.now) }
+    {
+        if self.bounds.rows().is_empty() {
+            return true;
+        }
+        match self.bounds.tight_over() {
+            None => false,
+            Some(ends) => are_between(ends, self.spans),
+        }
+    }
+
+    /// Writes the row of a symbol. Where the state is tight, the bounds behind those of the symbol are not looked at.
+    #[tactic(auto, using(crate::proofs::RowLaws::gaps_tell, crate::proofs::RowLaws::all_stored_tell))]
+    pub(crate) fn write_row(&self, is_tight: bool, s: u32, row: &mut [Option<i64>])
+        requires { IsTrue is_tight → IsTight (known self.now) }
+        ensures { IsRow row.new (known self.now) s }
+    {
+        if is_tight {
+            self.bounds.stored_from(s, row);
+        } else {
+            self.bounds.gaps_from(s, row);
+        }
+    }
+}
+
+/// The ends of each symbol: 0 of symbol 0, and those of the ranges of the others.
+fn ends_of(alloc: Global, ranges: &[Range]) -> Result<Vec<Ends>, NoMemory> {
+    let mut ends = Vec::with_capacity(alloc, ranges.len() + 1)?;
+    ends.push(Ends { lo: 0, hi: 0 })?;
+    for range in ranges {
+        ends.push(Ends {
+            lo: range.lo(),
+            hi: range.hi(),
+        })?;
+    }
+    Ok(ends)
+}
+
+/// Bounds that were put together. Where they are bounds that are known, the rows of these are shared.
+pub(crate) fn built(
+    alloc: Global,
+    bounds: BoundsBuilder,
+    known: &Bounds,
+) -> Result<Bounds, NoMemory>
+    ensures { IfOk result (λ made. made ≡ bounds) }
+{
+    if bounds.is_same(known) {
+        return known.copy(alloc);
+    }
+    bounds.build()
+}
+
+/// The same bounds, for which it is noted whether they are tight over ranges.
+pub(crate) fn noted(alloc: Global, bounds: Bounds, ranges: &[Range]) -> Result<Bounds, NoMemory>
+    ensures { IfOk result (λ noted. noted ≡ bounds) }
+{
+    let ends = ends_of(alloc, ranges)?;
+    bounds.noted(alloc, ends)
+}
