@@ -5,3 +5,4 @@ pub mod SaidLaws
 pub mod BindingLaws
 pub mod TableLaws
 pub mod NearLaws
+pub mod NameCounts

@@ -10,3 +10,4 @@ pub mod BothHold
 pub mod BoundHolds
 pub mod IncludedHolds
 pub mod StatesHold
+pub mod Sizes

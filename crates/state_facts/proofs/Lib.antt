@@ -18,3 +18,4 @@ pub mod ResultsHold
 pub mod UnknownSpans
 pub mod UnknownValues
 pub mod UnknownAddresses
+pub mod NameCounts

@@ -9,3 +9,4 @@ pub mod States
 pub mod Holds
 pub mod Keeps
 pub mod UnknownValues
+pub mod Sizes

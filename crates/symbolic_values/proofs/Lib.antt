@@ -9,3 +9,4 @@ pub mod PairedMeaning
 pub mod SymbolUses
 pub mod OwnNameLaws
 pub mod ReferenceLaws
+pub mod UseCounts

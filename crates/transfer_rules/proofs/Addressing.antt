@@ -1,5 +1,5 @@
 -- Addresses of the code, of a state that may be reached or not.
-use Rattle.std.proofs.Common.{◌≡◌, ℕ, Option, Some, None, refl, sym, ◌∙◌}
+use Rattle.std.proofs.Common.{◌≡◌, ℕ, Some, None, refl, sym, ◌∙◌}
 use Rattle.std.specs.Option.{ForSome, option_and_then}
 use Rattle.domain_api.specs.declared.expr.Expr.{Expr}
 use Rattle.frame_names.specs.declared.var.Var.TheVariants as vars

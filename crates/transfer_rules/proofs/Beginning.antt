@@ -38,7 +38,8 @@ there_still known i more v below =
 
 -- one more of them comes on top
 pub once_more : (state before after : State) (i : ℕ) → i < length (variables_in state) → before ≡ with_first i state
-    → ((v : Var) → slice_get (variables_in before) i ≡ Some v → after ≡ push v before) → after ≡ with_first (i + 1) state
+    → ((v : Var) → slice_get (variables_in before) i ≡ Some v → after ≡ push v before)
+    → after ≡ with_first (i + 1) state
 once_more None before after i below is more = absurd (omega (arith, below))
 once_more (Some known) before after i below is more =
     let v = get_or known.variables i vars.Text in

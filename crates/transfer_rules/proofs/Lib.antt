@@ -12,3 +12,4 @@ pub mod Inducing
 pub mod FitTold
 pub mod Beginning
 pub mod Requiring
+pub mod NameCounts

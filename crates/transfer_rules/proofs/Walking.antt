@@ -106,7 +106,8 @@ module _ (unit : MethodUnit) (number : ℕ) (is : List Instr) (first state : Sta
   pub last_ready : 1 ≤ length is → length (front is) ≤ k → k ≤ length (front is) → i ≡ get_or is (length is - 1) i
       → CanDo unit i.op state
   last_ready some least most there =
-      (subst (λ (l : List Instr). AreReady unit l state) (one_left unit number is k i some least most there) way.ready).0
+      (subst (λ (l : List Instr). AreReady unit l state) (one_left unit number is k i some least most there)
+      way.ready).0
 
   pub walk_done : 1 ≤ length is → length (front is) ≤ k → k ≤ length (front is) → i ≡ get_or is (length is - 1) i
       → along unit i.op number state ≡ through unit number is first

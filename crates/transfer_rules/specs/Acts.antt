@@ -179,8 +179,8 @@ abbrev pub after_callee : Option CalleeInfo → StateFacts → State
 after_callee (Some callee) known = called callee (Some known)
 after_callee None known = None
 
--- Behind an Assume its condition is not 0. Behind an Assert that is assumed with its fault. The other calls of contracts
--- are no part of a body.
+-- Behind an Assume its condition is not 0. Behind an Assert that is assumed with its fault. The other calls of
+-- contracts are no part of a body.
 unfoldable pub behind_call : MethodUnit → Option UnitCall → StateFacts → State
 behind_call unit (Some (calls.Assert message)) known = on_condition message left known
 behind_call unit (Some (calls.Assume message)) known = on_condition message with_condition known

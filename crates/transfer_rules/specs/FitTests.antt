@@ -40,7 +40,8 @@ fits_there kind v state = false
 -- So the variables from this list index on, each its kind.
 abbrev pub fit_from : State → List Kind → ℕ → Bool
 fit_from state [] i = true
-fit_from state (kind ∷ kinds) i = fits_there kind (slice_get (variables_in state) i) state && fit_from state kinds (i + 1)
+fit_from state (kind ∷ kinds) i =
+    fits_there kind (slice_get (variables_in state) i) state && fit_from state kinds (i + 1)
 
 -- The variables of a frame over a stack of these kinds, the bottom first, fit.
 abbrev pub fit_frame : MethodUnit → List Kind → State → Bool

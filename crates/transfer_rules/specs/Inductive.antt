@@ -26,8 +26,8 @@ pub record HasShape (code : UnitFlow) (states : List State) : Type 0 where
 -- The state along an edge from that of its source is included in that of its target.
 abbrev pub IsCarried : UnitFlow → List State → ℕ → Type 0
 IsCarried code states edge =
-    is_included (along_edge (state_at states (edge_at code edge).from) code edge) (state_at states (edge_at code edge).to)
-    ≡ true
+    is_included (along_edge (state_at states (edge_at code edge).from) code edge)
+    (state_at states (edge_at code edge).to) ≡ true
 
 abbrev pub AllCarried : UnitFlow → List State → Type 0
 AllCarried code states = (edge : ℕ) → edge < length code.graph.edges → IsCarried code states edge

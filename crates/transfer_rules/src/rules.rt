@@ -33,11 +33,11 @@ fn go_on(alloc: Global, state: &mut AbsState, unit: &Unit, op: &Op) -> Result<()
 }
 
 /// Makes a state that of after an instruction: none of its faults came, and its operation did what it does. Of a branch
-/// nothing is assumed. Behind a call of a method its Requires are true, and what came back is known by its Ensures. At a
-/// return the result stays on top, in its place, and the Ensures of the unit are true.
+/// nothing is assumed. Behind a call of a method its Requires are true, and what came back is known by its Ensures. At
+/// a return the result stays on top, in its place, and the Ensures of the unit are true.
 ///
-/// The caller owes that the arguments of a call lie on top of the stack and are of their kinds, and so for what a return
-/// reads (`CanDo`), as they are where the state fits the kinds there.
+/// The caller owes that the arguments of a call lie on top of the stack and are of their kinds, and so for what a
+/// return reads (`CanDo`), as they are where the state fits the kinds there.
 ///
 /// Cost: that of the operation's conditions and of its rule. After want of memory the state is to be given up.
 #[tactic(auto, using(crate::proofs::GoingOn::holding))]

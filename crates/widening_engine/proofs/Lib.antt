@@ -4,6 +4,8 @@ pub mod Marks
 pub mod Rounds
 mod Examples
 pub mod UnitSizes
+pub mod Limiting
+pub mod LimitSizes
 pub mod Counting
 pub mod Refreshing
 pub mod KeptStates

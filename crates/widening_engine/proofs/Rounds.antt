@@ -9,7 +9,7 @@ use Rattle.widening_engine.proofs.EdgeSteps.{Keeps}
 
 -- ---- a state for each block
 
-each_fits : {S : Type 0} (flow : Flow S) (fits : ℕ → S → Type 0) (state : ℕ → S) (states : List S) → states ≡ for_each_block flow state
+pub each_fits : {S : Type 0} (flow : Flow S) (fits : ℕ → S → Type 0) (state : ℕ → S) (states : List S) → states ≡ for_each_block flow state
     → ((block : ℕ) → block < flow.blocks → fits block (state block)) → FitBlocks flow fits states
 each_fits flow fits state states are fit = subst (FitBlocks flow fits) (sym are) (record {
   count = length-map-range_with_len state 0 flow.blocks;

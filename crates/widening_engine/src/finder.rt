@@ -1,6 +1,7 @@
 //! What finds the invariants of units.
 
 ghost use Rattle.std.specs.Prelude.{◌≡◌, ℕ, List, [], ◌∷◌, ◌++◌, map, IfOk, OnOk, OnErr};
+ghost use Rattle.state_facts.specs.Sizes.{AreSmall};
 ghost use Rattle.unit_flow.specs.Flow.{IsLawful};
 ghost use Rattle.unit_form.specs.Spelling.{unit_bytes};
 ghost use Rattle.widening_engine.specs.Limits.{limit_of, unit_flow};
@@ -26,6 +27,7 @@ pub trait Finder {
     fn find(&mut self, alloc: Global, code: &UnitFlow) -> Result<Invariant, NoMemory>
         requires lawful { IsLawful code.now }
         ensures value { IfOk result (λ found. found.states.items ≡ limit_of code.now) }
+        ensures small { IfOk result (λ found. AreSmall found.states.items) }
         ensures asked { OnOk result (asked self.new ≡ asked self.old ++ unit_bytes code.now.unit ∷ []) }
         ensures kept { OnErr result (asked self.new ≡ asked self.old) };
 }
@@ -63,6 +65,7 @@ pub(crate) fn find_invariant(
 ) -> Result<Invariant, NoMemory>
     requires lawful { IsLawful code.now }
     ensures value { IfOk result (λ found. found.states.items ≡ limit_of code.now) }
+    ensures small { IfOk result (λ found. AreSmall found.states.items) }
     ensures asked { OnOk result (map (λ bytes. bytes.items) asked.new.items ≡ map (λ bytes. bytes.items) asked.old.items ++ unit_bytes code.now.unit ∷ []) }
     ensures kept { OnErr result (map (λ bytes. bytes.items) asked.new.items ≡ map (λ bytes. bytes.items) asked.old.items) }
     // In every answer.

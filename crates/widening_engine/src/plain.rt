@@ -1,6 +1,7 @@
 //! A finder that computes every edge in each round.
 
 ghost use Rattle.std.specs.Prelude.{◌≡◌, ◌≤◌, ◌+◌, ◌*◌, ◌++◌, ◌∷◌, [], length, map, IfOk, OnOk, OnErr};
+ghost use Rattle.state_facts.specs.Sizes.{AreSmall};
 ghost use Rattle.unit_flow.specs.Flow.{IsLawful};
 ghost use Rattle.unit_form.specs.Spelling.{unit_bytes};
 ghost use Rattle.widening_engine.specs.Limits.{limit_of, unit_flow};
@@ -47,6 +48,7 @@ impl Finder for Plain {
     fn find(&mut self, alloc: Global, code: &UnitFlow) -> Result<Invariant, NoMemory>
         requires lawful { IsLawful code.now }
         ensures value { IfOk result (λ found. found.states.items ≡ limit_of code.now) }
+        ensures small { IfOk result (λ found. AreSmall found.states.items) }
         ensures asked { OnOk result (map (λ bytes. bytes.items) self.new.asked.items ≡ map (λ bytes. bytes.items) self.old.asked.items ++ unit_bytes code.now.unit ∷ []) }
         ensures kept { OnErr result (map (λ bytes. bytes.items) self.new.asked.items ≡ map (λ bytes. bytes.items) self.old.asked.items) }
         // Each edge is computed in each round, and in every answer no other is counted.

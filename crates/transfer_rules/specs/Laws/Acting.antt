@@ -1,5 +1,5 @@
 -- What is known behind an operation holds where the machine goes on by it.
-use Rattle.std.proofs.Common.{◌≡◌, ℕ, zero, suc, ◌+◌, ◌<◌, ℤ, pos, negsuc, ◌-ℤ◌, neg_ℤ, Bool, true, false, int_eq, int_le, int_lt, Option, Some, None, List, [], ◌∷◌, ◌++◌, length, get_or, Ok, Err, refl, sym, ap, subst, ◌∙◌, FitsSigned, w32, arith, length-append, inl, inr}
+use Rattle.std.proofs.Common.{◌≡◌, ℕ, zero, suc, ◌+◌, ◌<◌, ℤ, pos, negsuc, ◌-ℤ◌, neg_ℤ, Bool, true, false, int_eq, int_le, int_lt, Option, Some, None, List, [], ◌∷◌, ◌++◌, length, Ok, Err, refl, sym, ap, subst, ◌∙◌, FitsSigned, w32, arith, length-append, inl, inr}
 use Rattle.std.specs.Prelude.{Result, if◌then◌else◌, nat_lt, replicate, reverse, set, slice_get, unsigned_abs}
 use Rattle.std.specs.List.{AllByRecursion}
 use Rattle.std.specs.Option.{option_map}
@@ -7,7 +7,7 @@ use Rattle.std.proofs.lemmas.Bool.{cond_both, false≢true, ltb-true}
 use Rattle.std.proofs.lemmas.Bool.Decides.{Decides-int_eq}
 use Rattle.std.proofs.lemmas.Int.{ints, int_wrap_fits}
 use Rattle.std.proofs.lemmas.List.{length-replicate}
-use Rattle.std.proofs.lemmas.Option.{none-some, same_Some}
+use Rattle.std.proofs.lemmas.Option.{none-some}
 use Rattle.cc_base.specs.Wrap.{wrap32}
 use Rattle.cil_model.specs.Arithmetic as machine
 use Rattle.cil_model.specs.Arithmetic.{truth, unsigned}
@@ -41,16 +41,15 @@ use Rattle.frame_names.specs.declared.var.Var.TheVariants as vars
 use Rattle.machine_points.specs.Points.{IsPointOf}
 use Rattle.machine_points.specs.declared.point.Point.{Point}
 use Rattle.number_spans.specs.Constants.{constant}
-use Rattle.state_facts.specs.Forms.{HasForm, HasNumber, HasReference, HasVar}
+use Rattle.state_facts.specs.Forms.{HasForm, HasReference, HasVar}
 use Rattle.state_facts.specs.Holds.{HasValue, HoldsBy, HoldsIn, length_of_array, variables_of}
 use Rattle.state_facts.specs.Keeps.{HoldsOn}
-use Rattle.state_facts.specs.Moves.{popped, pushed, with_item, with_stored}
+use Rattle.state_facts.specs.Moves.{popped, pushed, with_item}
 use Rattle.state_facts.specs.StateFacts.{StateFacts, State, length_at}
 use Rattle.state_facts.proofs.MoveForms.{popped_form}
 use Rattle.state_facts.proofs.ArraysHold.{new_array_keeps}
 use Rattle.state_facts.proofs.ComparisonsHold.{compare_keeps}
 use Rattle.state_facts.proofs.MovesHold.{push_keeps}
-use Rattle.state_facts.proofs.StoresHold.{load_keeps, store_keeps}
 use Rattle.state_obligations.proofs.ConditionLaws.{met_is_kept}
 use Rattle.state_obligations.specs.declared.condition.Condition.TheVariants as conditions
 use Rattle.symbolic_values.specs.Worth.{worth}
@@ -58,7 +57,7 @@ use Rattle.transfer_rules.specs.Acts.{acted, arg_place, behind_call, behind_test
 use Rattle.transfer_rules.specs.Operands.{on_condition, on_one, on_three, on_two}
 use Rattle.transfer_rules.specs.Laws.Items as accesses
 use Rattle.transfer_rules.specs.Laws.Moves.{constant_is, constant_of, for_some, from_popped, into_holds, is_stored, length_is, result_holds, same_on, taken_is, type_found}
-use Rattle.transfer_rules.specs.Laws.Tops.{HasSizes, IsNumberOf, arg_at, arg_put, as_number, as_reference, has_at, has_sizes, has_top, local_at, local_put, on_one_over, on_three_over, on_two_over, over, over_pushed, place_below, top_as, var_below}
+use Rattle.transfer_rules.specs.Laws.Tops.{HasSizes, IsNumberOf, arg_at, arg_put, as_number, as_reference, has_at, has_sizes, has_top, local_at, local_put, on_one_over, on_two_over, over, over_pushed, place_below, top_as, var_below}
 
 -- ---- one instruction
 

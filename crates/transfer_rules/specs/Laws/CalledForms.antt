@@ -168,7 +168,7 @@ module _ (unit : MethodUnit) where
       ∙ ap (λ l. base ++ l) (reverse-append (take n stack) (drop n stack))
       ∙ sym (append_assoc base (reverse (drop n stack)) (reverse (take n stack)))
 
-  over_long : (stack : List Kind)
+  pub over_long : (stack : List Kind)
       → length (kinds_over unit stack) ≡ length unit.args + length unit.args + length unit.locals + length stack
   over_long stack =
       let args = map kind_in unit.args in
@@ -183,7 +183,8 @@ module _ (unit : MethodUnit) where
         length-reverse stack,
       )
 
-  few_over : (stack : List Kind) (known : StateFacts) → length unit.args + length unit.locals + length stack ≤ MAX_VARIABLES
+  few_over : (stack : List Kind) (known : StateFacts)
+      → length unit.args + length unit.locals + length stack ≤ MAX_VARIABLES
       → HasKinds (kinds_over unit stack) known → HasFew (Some known)
   few_over stack known few has =
       let long = fit_long known (kinds_over unit stack) known.variables has.fit in

@@ -42,7 +42,7 @@ use Rattle.state_facts.specs.Holds.{HoldsAt, HoldsIn}
 use Rattle.state_facts.specs.StateFacts.{StateFacts, State}
 use Rattle.transfer_rules.specs.Entry.{HoldsAtEntry, at_entry, begun, entry, required}
 use Rattle.transfer_rules.specs.Forms as forms
-use Rattle.transfer_rules.specs.Forms.{FitKinds, FitsKind, FitsStack, HasKinds, is_of_place, kinds_over}
+use Rattle.transfer_rules.specs.Forms.{FitsStack, HasKinds}
 use Rattle.transfer_rules.specs.Laws.BegunLaws.{begun_kinds, begun_over, both_all, entry_kinds, forms_of, on_no_stack}
 use Rattle.transfer_rules.specs.Laws.Fitting.{AreKinds, fit_at}
 use Rattle.transfer_rules.specs.Laws.FormsMerged.{normal_fits}

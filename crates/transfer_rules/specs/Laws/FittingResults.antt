@@ -20,7 +20,7 @@ use Rattle.number_facts.specs.Fresh.{Made}
 use Rattle.number_facts.specs.Gaps.{gap}
 use Rattle.state_facts.proofs.Growing.{Formed}
 use Rattle.state_facts.specs.Arithmetic.{with_result}
-use Rattle.state_facts.specs.Comparing.{null_known, null_tested, same_known, with_comparison, with_defined, with_known, with_null_known, with_null_test, with_same, with_same_known, with_tested, with_truth}
+use Rattle.state_facts.specs.Comparing.{null_known, null_tested, same_known, with_comparison, with_defined, with_null_known, with_null_test, with_same, with_same_known, with_tested, with_truth}
 use Rattle.state_facts.specs.Comparing as comparing
 use Rattle.state_facts.specs.Forms.{HasForm, HasVar, IsArrayPlace}
 use Rattle.state_facts.specs.Moves.{beside, in_variable, int32_in, item_place, on_top, others, place_at, placed, with_item, with_items, with_number, with_one_of, with_placed, with_put, with_set, with_stored, with_written}

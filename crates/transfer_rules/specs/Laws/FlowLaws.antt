@@ -31,7 +31,8 @@ along_fits code edge a lawful below fits = flows.along_fits code edge a lawful b
 pub along_holds : (code : UnitFlow) (edge : ℕ) (a : State) (p q : Point) → IsLawful code
     → edge < length code.graph.edges → Fits code (edge_at code edge).from a → HoldsAt a p
     → GoesAlong code edge p q → HoldsAt (along_edge a code edge) q
-along_holds code edge a p q lawful below fits holds goes = flows.along_holds code edge a p q lawful below fits holds goes
+along_holds code edge a p q lawful below fits holds goes =
+    flows.along_holds code edge a p q lawful below fits holds goes
 
 pub entry_fits : (code : UnitFlow) → IsLawful code → Fits code 0 (entry code.unit)
 entry_fits code lawful =

@@ -103,8 +103,8 @@ none_along unit op number = refl
 
 -- ---- calls and returns
 
-named_ready : (unit : MethodUnit) (call : Option UnitCall) (stack after : List Kind) (state : State) → IsWithin unit stack
-    → kinds.behind_call (shape_of unit) call stack ≡ Some after → FitsStack unit (Some stack) state
+named_ready : (unit : MethodUnit) (call : Option UnitCall) (stack after : List Kind) (state : State)
+    → IsWithin unit stack → kinds.behind_call (shape_of unit) call stack ≡ Some after → FitsStack unit (Some stack) state
     → CanCallBy unit call state
 named_ready unit (Some (calls.Callee number)) stack after state within typed fits =
     can_call_it unit (slice_get unit.callees number) stack after state

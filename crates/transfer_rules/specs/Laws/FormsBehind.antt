@@ -10,7 +10,7 @@ use Rattle.cil_model.specs.Bodies.{is_executed, is_executed_call}
 use Rattle.cil_model.specs.Comparisons.{comparison_of}
 use Rattle.cil_model.specs.FitKinds.{OperandFits}
 use Rattle.cil_model.specs.Kinds as kinds
-use Rattle.cil_model.specs.Kinds.{address_kind, is_address_of, is_array_of, is_number, is_reference, is_tested, kind_of, takes, when}
+use Rattle.cil_model.specs.Kinds.{address_kind, is_address_of, is_array_of, is_number, is_reference, is_tested, kind_of, takes}
 use Rattle.cil_model.specs.Passes.{merged, merged_kind, with_kind}
 use Rattle.cil_model.specs.Shapes.{shape_of}
 use Rattle.cil_model.specs.UnitCalls.{array_place, unit_call}

@@ -4,7 +4,7 @@ use Rattle.std.specs.Option.{option_map, option_map_or}
 use Rattle.std.proofs.lemmas.Bool.{and_parts, false≢true}
 use Rattle.std.proofs.lemmas.Option.{none-some, same_Some}
 use Rattle.cil_model.specs.Kinds as kinds
-use Rattle.cil_model.specs.Kinds.{address_kind, is_address_of, is_array_of, is_number, is_reference, is_tested, kind_of, takes, when}
+use Rattle.cil_model.specs.Kinds.{address_kind, is_address_of, is_array_of, is_number, is_reference, kind_of, takes, when}
 use Rattle.cil_model.specs.Passes.{merged_kind}
 use Rattle.cil_model.specs.Values.{same_place}
 use Rattle.cil_model.specs.declared.instruction.CmpOp.{CmpOp}

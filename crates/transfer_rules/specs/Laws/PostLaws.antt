@@ -113,11 +113,13 @@ pub call_avoided : (number call : ℕ) (state : State) → unit_call call ≡ So
 unfolding operation_of
 call_avoided number call None is = refl
 call_avoided number call (Some known) is =
-    subst (λ (c : Option UnitCall). (judged (option_map_or conditions_of (call_operation c known) []) (Some known)).state
-    ≡ Some known) (sym is) refl
+    subst
+    (λ (c : Option UnitCall). (judged (option_map_or conditions_of (call_operation c known) []) (Some known)).state ≡
+    Some known) (sym is) refl
 
 named_acts : (unit : MethodUnit) (number call : ℕ) (state : State) → unit_call call ≡ Some (calls.Callee number)
-    → option_and_then (acted unit (ops.Call call)) state ≡ option_and_then (after_callee (slice_get unit.callees number)) state
+    → option_and_then (acted unit (ops.Call call)) state
+    ≡ option_and_then (after_callee (slice_get unit.callees number)) state
 unfolding acted behind_call
 named_acts unit number call None is = refl
 named_acts unit number call (Some known) is = ap (λ (c : Option UnitCall). behind_call unit c known) is
