@@ -3,21 +3,20 @@ use Rattle.std.proofs.Common.{◌≡◌, ℕ, zero, suc, ◌+◌, ◌-◌, ◌<�
 use Rattle.std.proofs.Common.{arith, ap, ◌∙◌, sym, append_assoc, append-nil}
 use Rattle.cc_base.specs.Tests.{first_of}
 use Rattle.cc_base.proofs.TestLemmas.{first_of-append_none, first_of-append_some}
-use Rattle.invariant_codec.specs.Parses.{Parse, many}
-use Rattle.invariant_codec.specs.declared.fault.InvFault.{InvFault}
+use Rattle.invariant_codec.specs.Parses.{ParseBy, many}
 
 -- Of so many fields, these are read, and from this offset on the rest is left.
-pub record AreRead {X : Type 0} (one : List X → ℕ
-    → Parse X) (count start : ℕ) (read : List X) (rest at : ℕ) : Type 0 where
+pub record AreRead {F X : Type 0} (one : List X → ℕ
+    → ParseBy F X) (count start : ℕ) (read : List X) (rest at : ℕ) : Type 0 where
   pub tests : first_of (many one [] count start).tests ≡ first_of (many one read rest at).tests
   pub value : (many one [] count start).value ≡ read ++ (many one read rest at).value
   pub next : (many one [] count start).next ≡ (many one read rest at).next
 
-pub none_read : {X : Type 0} (one : List X → ℕ → Parse X) (count start : ℕ) → AreRead one count start [] count start
+pub none_read : {F X : Type 0} (one : List X → ℕ → ParseBy F X) (count start : ℕ) → AreRead one count start [] count start
 none_read one count start = record { tests = refl; value = refl; next = refl }
 
 -- The next one is read.
-one_more : {X : Type 0} (one : List X → ℕ → Parse X) (count start : ℕ) (read : List X) (rest at : ℕ)
+one_more : {F X : Type 0} (one : List X → ℕ → ParseBy F X) (count start : ℕ) (read : List X) (rest at : ℕ)
     → AreRead one count start read (suc rest) at
     → first_of (one read at).tests ≡ None
     → AreRead one count start (read ++ (one read at).value ∷ []) rest (one read at).next
@@ -28,7 +27,7 @@ one_more one count start read rest at before passed = record {
   next = before.next;
 }
 
-pub read_next : {X : Type 0} (one : List X → ℕ → Parse X) (count start k at next : ℕ) (read : List X) (x : X)
+pub read_next : {F X : Type 0} (one : List X → ℕ → ParseBy F X) (count start k at next : ℕ) (read : List X) (x : X)
     → k < count → AreRead one count start read (count - k) at
     → first_of (one read at).tests ≡ None → x ≡ (one read at).value → next ≡ (one read at).next
     → AreRead one count start (read ++ x ∷ []) (count - (k + 1)) next
@@ -37,7 +36,7 @@ read_next one count start k at next read x l before passed e f =
     rw e (rw f (one_more one count start read (count - (k + 1)) at (rw (← e1) before) passed))
 
 -- The next one has a fault, and so have all.
-pub read_fault : {X : Type 0} (one : List X → ℕ → Parse X) (count start k at : ℕ) (read : List X) (fault : InvFault)
+pub read_fault : {F X : Type 0} (one : List X → ℕ → ParseBy F X) (count start k at : ℕ) (read : List X) (fault : F)
     → k < count → AreRead one count start read (count - k) at
     → first_of (one read at).tests ≡ Some fault → first_of (many one [] count start).tests ≡ Some fault
 unfolding many
@@ -46,12 +45,12 @@ read_fault one count start k at read fault l before failed =
     before.tests ∙ ap (λ n. first_of (many one read n at).tests) e1 ∙ first_of-append_some _ _ fault failed
 
 -- All are read.
-pub record Whole {X : Type 0} (parse : Parse (List X)) (read : List X) (at : ℕ) : Type 0 where
+pub record Whole {F X : Type 0} (parse : ParseBy F (List X)) (read : List X) (at : ℕ) : Type 0 where
   pub tests : first_of parse.tests ≡ None
   pub value : read ≡ parse.value
   pub next : at ≡ parse.next
 
-pub all_read : {X : Type 0} (one : List X → ℕ → Parse X) (count start k at : ℕ) (read : List X) → count ≤ k
+pub all_read : {F X : Type 0} (one : List X → ℕ → ParseBy F X) (count start k at : ℕ) (read : List X) → count ≤ k
     → AreRead one count start read (count - k) at
     → Whole (many one [] count start) read at
 unfolding many first_of
@@ -60,7 +59,7 @@ all_read one count start k at read l before =
     let same : AreRead one count start read 0 at = rw (← e0) before in
     record { tests = same.tests; value = sym (same.value ∙ append-nil read); next = sym same.next }
 
-pub length-many : {X : Type 0} (one : List X → ℕ → Parse X) (read : List X) (count at : ℕ)
+pub length-many : {F X : Type 0} (one : List X → ℕ → ParseBy F X) (read : List X) (count at : ℕ)
     → length (many one read count at).value ≡ count
 unfolding many
 length-many one read zero at = refl

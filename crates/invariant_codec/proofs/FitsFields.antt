@@ -1,6 +1,6 @@
 -- What is spelled fits its fields.
 use Rattle.std.proofs.Common.{◌≡◌, ℕ, ◌<◌, ◌^◌, ℤ, Bool, true, false, List, [], ◌∷◌, ◌++◌, length, map}
-use Rattle.std.proofs.Common.{sym, subst, arith, FitsSigned, w64}
+use Rattle.std.proofs.Common.{sym, subst, FitsSigned, w64}
 use Rattle.std.specs.Int.{cast_unsigned}
 use Rattle.std.specs.List.{AllByRecursion}
 use Rattle.std.proofs.Math.Facts.{sfits_to_z}
@@ -19,6 +19,7 @@ use Rattle.invariant_codec.specs.Spellable.{AreSpellable, Fits, IsShort, IsShort
 use Rattle.invariant_codec.specs.States as states
 use Rattle.invariant_codec.specs.Symbols as symbols
 use Rattle.invariant_codec.proofs.GoodStates.{AreArrays, AreSegments, all_of, each_of, segment_good, state_parts}
+use Rattle.invariant_codec.proofs.SmallStates.{nothing_fits}
 use Rattle.invariant_codec.proofs.SpellingLaws.{arrays_size}
 
 int64_fits : (z : ℤ) → numbers.int64.IsSpelled z → FitsSigned w64 z
@@ -101,14 +102,16 @@ known_fits parts spelled =
       bounds = spelled.1.1.1.0.0;
       definitions = spelled.1.1.1.1.0.0;
       apart = spelled.1.1.1.1.1.0.0;
-      short_bounds = each_of (symbols.row count).IsSpelled (λ r. FitsSigned w64 r.k) symbols.row_precedes
-          (row_short count) [] parts.bounds spelled.1.1.1.0.1.1;
-      short_definitions = each_of (symbols.definition count (length all)).IsSpelled
-          (λ d. IsShortDef d.1) symbols.definition_precedes
-          (definition_short count (length all)) [] parts.definitions spelled.1.1.1.1.0.1.1;
-      short_contents = subst (λ (p : StateParts). AllByRecursion
-          (λ (l : Segments). AllByRecursion (AllByRecursion IsShort) l.bounds) p.contents) (sym is)
-          (contents_short count [] all spelled.1.0.1.1);
+      short = record {
+        bounds = each_of (symbols.row count).IsSpelled (λ r. FitsSigned w64 r.k) symbols.row_precedes
+            (row_short count) [] parts.bounds spelled.1.1.1.0.1.1;
+        definitions = each_of (symbols.definition count (length all)).IsSpelled
+            (λ d. IsShortDef d.1) symbols.definition_precedes
+            (definition_short count (length all)) [] parts.definitions spelled.1.1.1.1.0.1.1;
+        contents = subst (λ (p : StateParts). AllByRecursion
+            (λ (l : Segments). AllByRecursion (AllByRecursion IsShort) l.bounds) p.contents) (sym is)
+            (contents_short count [] all spelled.1.0.1.1);
+      };
     }
 
 state_fits : (parts : StateParts) → states.state.IsSpelled parts → Fits parts
@@ -117,17 +120,7 @@ state_fits parts spelled = by parts.reached spelled.1
   where
     by : (reached : Bool) → (states.known_where reached).IsSpelled parts → Fits parts
     by true good = known_fits parts good
-    by false good = subst Fits (sym good) (record {
-      symbols = omega arith;
-      references = omega arith;
-      variables = omega arith;
-      bounds = omega arith;
-      definitions = omega arith;
-      apart = omega arith;
-      short_bounds = tt;
-      short_definitions = tt;
-      short_contents = tt;
-    })
+    by false good = subst Fits (sym good) nothing_fits
 
 each_spellable : (before : List StateParts) (all : List State)
     → AllGood (λ before. states.state.IsSpelled) before (map parts_of all) → AllByRecursion IsSpellable all

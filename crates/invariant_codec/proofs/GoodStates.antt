@@ -5,7 +5,6 @@ use Rattle.std.proofs.Common.{ap, ◌∙◌, arith, FitsSigned, w32}
 use Rattle.std.specs.Prelude.{◌==◌, not, nat_lt, int_le, int_lt}
 use Rattle.std.specs.Int.{cast_unsigned}
 use Rattle.std.specs.List.{AllByRecursion}
-use Rattle.std.specs.Option.{option_map_or}
 use Rattle.std.proofs.Math.Facts.{sfits_to_z}
 use Rattle.std.proofs.lemmas.Bool.{leb-true, true≢false}
 use Rattle.std.proofs.lemmas.Bool.Decides.{nat_tests}
@@ -33,7 +32,7 @@ use Rattle.state_facts.specs.Forms as forms
 use Rattle.symbolic_values.specs.declared.def.Def.{Def}
 use Rattle.symbolic_values.specs.declared.def.Def.TheVariants.{Eq, Lt, LtUn, NullTest, Sub}
 use Rattle.abs_state.specs.StateParts.{AreParts, IsKnown, StateParts, known_of, nothing_listed}
-use Rattle.invariant_codec.specs.Formats.{AllGood, comes_next, last_of}
+use Rattle.invariant_codec.specs.Formats.{AllGood, comes_after, comes_next, last_of}
 use Rattle.invariant_codec.specs.Numbers as numbers
 use Rattle.invariant_codec.specs.Segments as segments
 use Rattle.invariant_codec.specs.Symbols as symbols
@@ -80,16 +79,13 @@ before_all : {X : Type 0} (precedes : X → X → Bool) → Goes precedes → (x
 before_all precedes goes x y [] first all = tt
 before_all precedes goes x y (z ∷ ys) first all = (goes x y z first all.0, before_all precedes goes x y ys first all.1)
 
-abbrev pub comes_by : {X : Type 0} → (X → X → Bool) → X → Option X → Bool
-comes_by precedes y last = option_map_or (λ last. precedes last y) last true
-
 -- Where each comes after the last one before it, each comes after all of these.
 after_all : {X : Type 0} (P : X → Type 0) (precedes : X → X → Bool) → Goes precedes
     → (before : List X) (x : X) (xs : List X)
     → AllGood (λ before x. P x × (comes_next precedes before x ≡ true)) (before ++ x ∷ []) xs → AreAfter precedes x xs
 after_all P precedes goes before x [] good = tt
 after_all P precedes goes before x (y ∷ ys) good =
-    let first : precedes x y ≡ true = subst (λ last. comes_by precedes y last ≡ true) (last_is before x) good.0.1 in
+    let first : precedes x y ≡ true = subst (λ last. comes_after precedes last y ≡ true) (last_is before x) good.0.1 in
     (first, before_all precedes goes x y ys first (after_all P precedes goes (before ++ x ∷ []) y ys good.1))
 
 -- ---- numbers

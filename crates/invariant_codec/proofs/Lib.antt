@@ -1,5 +1,5 @@
-mod Stands
-mod Counted
+pub mod Stands
+pub mod Counted
 mod FormatLaws
 mod NumberLaws
 mod SegmentLaws
@@ -10,8 +10,11 @@ mod SpellingLaws
 mod FitsFields
 mod Narrow
 mod SpelledFields
+mod SmallStates
+mod FaultsInside
 mod StateAnswers
 mod RangesRead
 mod SegmentsRead
 mod ArraysRead
 mod PutSteps
+mod Passed

@@ -9,7 +9,6 @@ use Rattle.array_contents.specs.Contents.{AreFormed, Contents, Segments}
 use Rattle.domain_api.specs.declared.expr.Expr.{Expr}
 use Rattle.frame_names.specs.declared.reference.Reference.{Reference}
 use Rattle.interval_domain.specs.Interval.{Interval}
-use Rattle.number_spans.specs.Stored.{IsNarrow}
 use Rattle.state_facts.specs.Forms.{lengths_of}
 use Rattle.invariant_codec.specs.Written.{AreSegmentsOf, IsWritten}
 use Rattle.invariant_codec.specs.Spelling.{each_reference_bytes, each_segment_bytes, reference_bytes, segment_bytes}
@@ -99,3 +98,8 @@ pub put_after : {X E : Type 0} (result : Result X E) (out middle after part rest
 put_after (Ok x) out middle after part rest first more = more ∙ ap (λ (t : List ℕ). t ++ rest) first
     ∙ append_assoc out part rest
 put_after (Err e) out middle after part rest first more = tt
+
+-- What is so is so of an answer.
+pub held : {X E P : Type 0} (result : Result X E) → P → OnOk result P
+held (Ok x) so = so
+held (Err e) so = tt

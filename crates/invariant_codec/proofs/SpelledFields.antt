@@ -32,13 +32,13 @@ use Rattle.state_facts.specs.Forms as forms
 use Rattle.state_facts.specs.StateFacts.{State}
 use Rattle.symbolic_values.specs.declared.def.Def.{Def}
 use Rattle.symbolic_values.specs.declared.def.Def.TheVariants.{Eq, Lt, LtUn, NullTest, Sub}
-use Rattle.invariant_codec.specs.Formats.{AllGood, comes_next}
+use Rattle.invariant_codec.specs.Formats.{AllGood, comes_after, comes_next}
 use Rattle.invariant_codec.specs.Numbers as numbers
 use Rattle.invariant_codec.specs.Segments as segments
 use Rattle.invariant_codec.specs.Spellable.{AreSpellable, Fits, IsShort, IsShortDef, IsSpellable}
 use Rattle.invariant_codec.specs.States as states
 use Rattle.invariant_codec.specs.Symbols as symbols
-use Rattle.invariant_codec.proofs.GoodStates.{AreAfter, AreArrays, AreSegments, comes_by, last_is, one_more}
+use Rattle.invariant_codec.proofs.GoodStates.{AreAfter, AreArrays, AreSegments, last_is, one_more}
 use Rattle.invariant_codec.proofs.Narrow.{high_fits, hole_fits, low_fits}
 use Rattle.invariant_codec.proofs.NumberLaws.{both_true}
 
@@ -49,12 +49,12 @@ good_all : {X : Type 0} (P Q : X → Type 0) → ((x : X) → Q x → P x) → (
 good_all P Q so before [] all = tt
 good_all P Q so before (x ∷ xs) all = (so x all.0, good_all P Q so (before ++ x ∷ []) xs all.1)
 
-all_both : {X : Type 0} (P Q : X → Type 0) → (xs : List X) → AllByRecursion P xs → AllByRecursion Q xs
+pub all_both : {X : Type 0} (P Q : X → Type 0) → (xs : List X) → AllByRecursion P xs → AllByRecursion Q xs
     → AllByRecursion (λ x. P x × Q x) xs
 all_both P Q [] a b = tt
 all_both P Q (x ∷ xs) a b = ((a.0, b.0), all_both P Q xs a.1 b.1)
 
-abbrev AreSorted : {X : Type 0} → (X → X → Bool) → List X → Type 0
+abbrev pub AreSorted : {X : Type 0} → (X → X → Bool) → List X → Type 0
 AreSorted precedes [] = Unit {0}
 AreSorted precedes (x ∷ xs) = AreAfter precedes x xs × AreSorted precedes xs
 
@@ -65,7 +65,7 @@ after_last : {X : Type 0} (P Q : X → Type 0) (precedes : X → X → Bool) →
     → AllGood (λ before x. P x × (comes_next precedes before x ≡ true)) (before ++ x ∷ []) xs
 after_last P Q precedes so before x [] all first sorted = tt
 after_last P Q precedes so before x (y ∷ ys) all first sorted =
-    let comes : comes_next precedes (before ++ x ∷ []) y ≡ true = subst (λ last. comes_by precedes y last ≡ true)
+    let comes : comes_next precedes (before ++ x ∷ []) y ≡ true = subst (λ last. comes_after precedes last y ≡ true)
     (sym (last_is before x)) first.0 in
     ((so y all.0, comes), after_last P Q precedes so (before ++ x ∷ []) y ys all.1 sorted.0 sorted.1)
 
@@ -244,15 +244,15 @@ less_all : (d : symbols.Definition) (ds : List symbols.Definition) → AllByRecu
 less_all d [] all = tt
 less_all d (e ∷ ds) all = (grind (arith, nat_tests, all.0), less_all d ds all.1)
 
-sorted_definitions : (ds : List symbols.Definition) → forms.SymbolsRise ds → AreSorted symbols.definition_precedes ds
+pub sorted_definitions : (ds : List symbols.Definition) → forms.SymbolsRise ds → AreSorted symbols.definition_precedes ds
 sorted_definitions [] rise = tt
 sorted_definitions (d ∷ ds) rise = (less_all d ds rise.0, sorted_definitions ds rise.1)
 
-sorted_rows : (rs : List BoundRow) → AreBounds rs → AreSorted symbols.row_precedes rs
+pub sorted_rows : (rs : List BoundRow) → AreBounds rs → AreSorted symbols.row_precedes rs
 sorted_rows [] are = tt
 sorted_rows (r ∷ rs) are = (are.1, sorted_rows rs are.2)
 
-proper_rows : (rs : List BoundRow) → AreBounds rs → AllByRecursion (λ r. is_pair r.s r.t ≡ true) rs
+pub proper_rows : (rs : List BoundRow) → AreBounds rs → AllByRecursion (λ r. is_pair r.s r.t ≡ true) rs
 proper_rows [] are = tt
 proper_rows (r ∷ rs) are = (are.0, proper_rows rs are.2)
 
@@ -265,7 +265,7 @@ pair_spelled references p few is =
     let more : 1 ≤ p.1 = grind (arith, nat_tests, both.1) in
     ((proper_spelled references p.0 some is.0.0 few, (proper_spelled references p.1 more is.0.1 few, refl)), both.1)
 
-sorted_pairs : (ps : List Pair) → AreInOrder ps → AreSorted comes_before ps
+pub sorted_pairs : (ps : List Pair) → AreInOrder ps → AreSorted comes_before ps
 sorted_pairs [] are = tt
 sorted_pairs (p ∷ ps) are = (are.0, sorted_pairs ps are.1)
 
@@ -496,9 +496,9 @@ known_spelled parts reached is fits =
     let pairs_there = subst (λ n. AllByRecursion (forms.EndsBy n) parts.apart) size is.form.pairs in
     let good_rows = all_both (λ r. is_pair r.s r.t ≡ true)
     (λ r. AreBelow (count + 1) r × FitsSigned w64 r.k) parts.bounds (proper_rows parts.bounds is.ordered.bounds)
-    (all_both (AreBelow (count + 1)) (λ r. FitsSigned w64 r.k) parts.bounds is.form.named.bounds fits.short_bounds) in
+    (all_both (AreBelow (count + 1)) (λ r. FitsSigned w64 r.k) parts.bounds is.form.named.bounds fits.short.bounds) in
     let good_definitions = all_definitions count
-    (length all) parts.definitions is.form.rising.0 is.form.named.definitions tests fits.short_definitions in
+    (length all) parts.definitions is.form.rising.0 is.form.named.definitions tests fits.short.definitions in
     let good_pairs = all_both (forms.EndsBy (length all))
     (λ p. is_proper p ≡ true) parts.apart pairs_there is.ordered.proper in (
       (small, (refl, good_all numbers.range.IsSpelled IsNarrow range_spelled [] parts.ranges is.form.narrow)),
@@ -508,7 +508,7 @@ known_spelled parts reached is fits =
           (
             refl,
             arrays_spelled count small [] parts.references parts.contents is.form.references formed
-                fits.short_contents,
+                fits.short.contents,
           ),
         ),
         (

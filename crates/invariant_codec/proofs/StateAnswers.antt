@@ -11,6 +11,7 @@ use Rattle.cc_base.specs.declared.refusal.Refusal.{Refusal}
 use Rattle.cc_base.specs.declared.refusal.Refusal.TheVariants.{Bad, NoMemory}
 use Rattle.state_facts.specs.StateFacts.{State}
 use Rattle.invariant_codec.specs.Formats.{AllGood}
+use Rattle.invariant_codec.specs.Invariants.{IsInvariant, first_states_fault}
 use Rattle.invariant_codec.specs.Numbers as numbers
 use Rattle.invariant_codec.specs.Spelling.{known_bytes, parts_bytes, state_bytes, states_bytes}
 use Rattle.invariant_codec.specs.Spellable.{AreSpellable}
@@ -104,3 +105,18 @@ read_only bytes told (Err (Bad fault)) all fits are spelled judged =
     let none : Some fault ≡ None = sym judged
     ∙ (file_again bytes (map parts_of all) fits good (states_same all good ∙ spelled)).passed in absurd cc
 read_only bytes told (Err NoMemory) all fits are spelled judged = tt
+
+-- ---- what is written
+
+-- What is written of states that are spelled is an invariant, of which they are read again.
+pub record IsReadAgain (bytes : List ℕ) (all : List State) : Type 0 where
+  pub invariant : IsInvariant bytes
+  pub parts : (states_file bytes).value ≡ map parts_of all
+
+pub written_again : (bytes : List ℕ) (all : List State) → IsBytes bytes → AreSpellable all → bytes ≡ states_bytes all
+    → IsReadAgain bytes all
+unfolding first_states_fault
+written_again bytes all fits are is =
+    let good = states_spelled all are in
+    let again = file_again bytes (map parts_of all) fits good (states_same all good ∙ sym is) in
+    record { invariant = again.passed; parts = again.value }

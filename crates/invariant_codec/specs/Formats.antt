@@ -80,9 +80,13 @@ each item count = listed (λ before. item) item.spell count
 abbrev pub last_of : {X : Type 0} → List X → Option X
 last_of xs = slice_get xs (length xs - 1)
 
--- The item comes after the last of those before it.
+-- The item comes after this one, if there is one.
+abbrev pub comes_after : {X : Type 0} → (X → X → Bool) → Option X → X → Bool
+comes_after precedes last x = option_map_or (λ it. precedes it x) last true
+
+-- It comes after the last of those before it.
 abbrev pub comes_next : {X : Type 0} → (X → X → Bool) → List X → X → Bool
-comes_next precedes before x = option_map_or (λ last. precedes last x) (last_of before) true
+comes_next precedes before x = comes_after precedes (last_of before) x
 
 -- So many items in order, where an earlier one precedes a later one.
 abbrev pub in_order : {X : Type 0} → (X → X → Bool) → Format X → ℕ → Format (List X)

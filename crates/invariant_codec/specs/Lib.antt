@@ -5,5 +5,6 @@ pub mod Segments
 pub mod Symbols
 pub mod States
 pub mod Spelling
+pub mod Invariants
 pub mod Written
 pub mod Spellable

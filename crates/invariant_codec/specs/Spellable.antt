@@ -23,6 +23,12 @@ IsShortDef (Sub a b) = IsShort a × IsShort b
 abbrev pub AreShortBounds : Segments → Type 0
 AreShortBounds segments = AllByRecursion (AllByRecursion IsShort) segments.bounds
 
+-- The constants of bounds, of definitions and of what is known of items are numbers of 64 bits.
+pub record HasShortConstants (parts : StateParts) : Type 0 where
+  pub bounds : AllByRecursion (λ row. FitsSigned w64 row.k) parts.bounds
+  pub definitions : AllByRecursion (λ d. IsShortDef d.1) parts.definitions
+  pub contents : AllByRecursion AreShortBounds parts.contents
+
 -- The counts of a state fit two bytes, those of bounds and pairs four, and constants are numbers of 64 bits.
 pub record Fits (parts : StateParts) : Type 0 where
   pub symbols : length parts.ranges < 2 ^ 16
@@ -31,9 +37,7 @@ pub record Fits (parts : StateParts) : Type 0 where
   pub bounds : length parts.bounds < 2 ^ 32
   pub definitions : length parts.definitions < 2 ^ 16
   pub apart : length parts.apart < 2 ^ 32
-  pub short_bounds : AllByRecursion (λ row. FitsSigned w64 row.k) parts.bounds
-  pub short_definitions : AllByRecursion (λ d. IsShortDef d.1) parts.definitions
-  pub short_contents : AllByRecursion AreShortBounds parts.contents
+  pub short : HasShortConstants parts
 
 -- It is a state, and its counts and numbers fit.
 pub record IsSpellable (state : State) : Type 0 where

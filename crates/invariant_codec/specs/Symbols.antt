@@ -1,5 +1,5 @@
 -- Variables, and what is known of symbols and of pairs of references.
-use Rattle.std.specs.Prelude.{ℕ, ◌==◌, Bool, false, not, ◌&&◌, nat_lt, ℤ, List, length, if◌then◌else◌}
+use Rattle.std.specs.Prelude.{ℕ, ◌==◌, Bool, false, not, ◌&&◌, nat_lt, ℤ, List, length, Option, if◌then◌else◌}
 use Rattle.alias_facts.specs.PairsOf.{Pair, comes_before}
 use Rattle.array_segments.specs.SegmentLists.{zero_expr}
 use Rattle.domain_api.specs.declared.expr.Expr.{Expr}
@@ -9,7 +9,7 @@ use Rattle.pentagon_domain.specs.Rows.{is_before}
 use Rattle.pentagon_domain.specs.declared.bound_row.BoundRow.{BoundRow}
 use Rattle.symbolic_values.specs.declared.def.Def.{Def}
 use Rattle.symbolic_values.specs.declared.def.Def.TheVariants.{Eq, Lt, LtUn, NullTest, Sub}
-use Rattle.invariant_codec.specs.Formats.{Format, choice, comes_next, each, in_order, last_part, only, part, tested}
+use Rattle.invariant_codec.specs.Formats.{Format, choice, comes_after, each, in_order, last_part, only, part, tested}
 use Rattle.invariant_codec.specs.Numbers.{byte, expr, flag, int64, is_within, name, near_expr, number, proper_name}
 
 -- ---- variables
@@ -70,9 +70,9 @@ row symbols =
 abbrev pub row_precedes : BoundRow → BoundRow → Bool
 row_precedes a b = is_before a b.s b.t
 
--- The bound after these.
-abbrev pub next_row : ℕ → List BoundRow → Format BoundRow
-next_row symbols before = tested (comes_next row_precedes before) (row symbols)
+-- The bound after this one, if there is one.
+abbrev pub next_row : ℕ → Option BoundRow → Format BoundRow
+next_row symbols last = tested (comes_after row_precedes last) (row symbols)
 
 unfoldable pub rows : ℕ → Format (List BoundRow)
 rows symbols = part length (number 4) (in_order row_precedes (row symbols))
@@ -140,10 +140,10 @@ definition symbols references =
 abbrev pub definition_precedes : Definition → Definition → Bool
 definition_precedes a b = nat_lt a.0 b.0
 
--- The definition after these.
-abbrev pub next_definition : (symbols references : ℕ) → List Definition → Format Definition
-next_definition symbols references before =
-    tested (comes_next definition_precedes before) (definition symbols references)
+-- The definition after this one, if there is one.
+abbrev pub next_definition : (symbols references : ℕ) → Option Definition → Format Definition
+next_definition symbols references last =
+    tested (comes_after definition_precedes last) (definition symbols references)
 
 unfoldable pub definitions : (symbols references : ℕ) → Format (List Definition)
 definitions symbols references = part length (number 2) (in_order definition_precedes (definition symbols references))
@@ -160,9 +160,9 @@ pair references =
     (part (λ p. p.0) (proper_name references) (λ r.
     last_part (λ p. p.1) (pair_of r) (proper_name references)))
 
--- The pair after these.
-abbrev pub next_pair : ℕ → List Pair → Format Pair
-next_pair references before = tested (comes_next comes_before before) (pair references)
+-- The pair after this one, if there is one.
+abbrev pub next_pair : ℕ → Option Pair → Format Pair
+next_pair references last = tested (comes_after comes_before last) (pair references)
 
 unfoldable pub pairs : ℕ → Format (List Pair)
 pairs references = part length (number 4) (in_order comes_before (pair references))

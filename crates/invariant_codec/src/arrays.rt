@@ -4,7 +4,7 @@ ghost use Rattle.std.specs.Prelude.{◌≡◌, ◌+◌, ◌-◌, ◌≤◌, ◌+
 ghost use Rattle.array_segments.specs.Segments.{lists_of};
 ghost use Rattle.cc_base.specs.Tests.{first_of, Judges, JudgesOrNoMemory};
 ghost use Rattle.invariant_codec.specs.Formats.{each};
-ghost use Rattle.invariant_codec.specs.Parses.{IsRead};
+ghost use Rattle.invariant_codec.specs.Parses.{IsPassed, IsRead};
 ghost use Rattle.invariant_codec.specs.Segments.{array, array_place, arrays, in_lists, nullness_format, with_array};
 
 use crate::expressions::read_near_expr;
@@ -161,4 +161,44 @@ pub(crate) fn read_arrays(
 {
     let count = read_u16(bytes, at)?;
     read_each(alloc, bytes, at + 2, count, symbols)
+}
+
+/// Tests so many references with their segments from this offset on, and returns the offset after them.
+fn check_each(
+    alloc: Global,
+    bytes: &[u8],
+    start: u32,
+    count: u16,
+    symbols: usize,
+) -> Result<u32, InvRefusal>
+    requires short { length bytes.now ≤ 2147483647 }
+    requires inside { start ≤ length bytes.now }
+    ensures { JudgesOrNoMemory result (first_of ((each (array symbols) count).read bytes.now start).tests)
+        (λ next. (count ≡ length ((each (array symbols) count).read bytes.now start).value)
+        × IsPassed bytes.now ((each (array symbols) count).read bytes.now start) next) }
+{
+    let mut at = start;
+    for _array in 0..count {
+        let (_, next) = read_array(alloc, bytes, at, symbols)?;
+        at = next;
+    }
+    Ok(at)
+}
+
+/// Tests references with their segments, after their count. Returns how many there are, and the offset after them.
+#[tactic(auto, using(cc_base::proofs::TestLemmas::appended, cc_base::proofs::TestLemmas::carried), unfolding(crate::specs::Segments::arrays))]
+pub(crate) fn check_arrays(
+    alloc: Global,
+    bytes: &[u8],
+    at: u32,
+    symbols: usize,
+) -> Result<(usize, u32), InvRefusal>
+    requires short { length bytes.now ≤ 2147483647 }
+    ensures { JudgesOrNoMemory result (first_of ((arrays symbols).read bytes.now at).tests)
+        (λ read. (read.0 ≡ length ((arrays symbols).read bytes.now at).value)
+        × IsPassed bytes.now ((arrays symbols).read bytes.now at) read.1) }
+{
+    let count = read_u16(bytes, at)?;
+    let next = check_each(alloc, bytes, at + 2, count, symbols)?;
+    Ok((usize::from(count), next))
 }

@@ -2,7 +2,7 @@
 
 ghost use Rattle.std.specs.Prelude.{◌≡◌, ◌≢◌, ◌+◌, ◌-◌, ◌≤◌, length};
 ghost use Rattle.cc_base.specs.Tests.{first_of, Judges, JudgesOrNoMemory};
-ghost use Rattle.invariant_codec.specs.Formats.{comes_next, in_order};
+ghost use Rattle.invariant_codec.specs.Formats.{comes_after, in_order};
 ghost use Rattle.invariant_codec.specs.Parses.{IsRead};
 ghost use Rattle.invariant_codec.specs.Symbols.{def, def_of_two, def_with_two, definition, definition_precedes};
 ghost use Rattle.invariant_codec.specs.Symbols.{definitions, next_definition, null_test};
@@ -88,31 +88,31 @@ fn read_definition(
     Ok(((symbol, def), next))
 }
 
-/// Returns whether the definition of a symbol comes after the last of these.
-fn comes_next(definitions: &[(u32, Def)], definition: (u32, Def)) -> bool
-    ensures { result ≡ comes_next definition_precedes definitions.now definition }
+/// Returns whether the definition of a symbol comes after another one, if there is one.
+fn comes_after(last: Option<(u32, Def)>, definition: (u32, Def)) -> bool
+    ensures { result ≡ comes_after definition_precedes last definition }
 {
-    match definitions.last() {
+    match last {
         Some(last) => last.0 < definition.0,
         None => true,
     }
 }
 
-/// The definition at this offset, which comes after these, and the offset after it.
+/// The definition at this offset, which comes after this one, if there is one, and the offset after it.
 #[tactic(auto, using(cc_base::proofs::TestLemmas::appended, cc_base::proofs::TestLemmas::first_tests))]
 fn read_next(
     bytes: &[u8],
     at: u32,
     symbols: usize,
     references: usize,
-    definitions: &[(u32, Def)],
+    last: Option<(u32, Def)>,
 ) -> Result<((u32, Def), u32), InvFault>
     requires short { length bytes.now ≤ 2147483647 }
-    ensures { Judges result (first_of ((next_definition symbols references definitions.now).read bytes.now at).tests)
-        (λ read. IsRead bytes.now ((next_definition symbols references definitions.now).read bytes.now at) read.0 read.1) }
+    ensures { Judges result (first_of ((next_definition symbols references last).read bytes.now at).tests)
+        (λ read. IsRead bytes.now ((next_definition symbols references last).read bytes.now at) read.0 read.1) }
 {
     let (definition, next) = read_definition(bytes, at, symbols, references)?;
-    if !comes_next(definitions, definition) {
+    if !comes_after(last, definition) {
         return Err(InvFault::Form(at));
     }
     Ok((definition, next))
@@ -134,10 +134,12 @@ fn read_each(
         (λ read. IsRead bytes.now ((in_order definition_precedes (definition symbols references) count).read bytes.now start) read.0.items read.1) }
 {
     let mut definitions = Vec::new(alloc);
+    let mut last = None;
     let mut at = start;
     for _definition in 0..count {
-        let (definition, next) = read_next(bytes, at, symbols, references, &definitions)?;
+        let (definition, next) = read_next(bytes, at, symbols, references, last)?;
         definitions.push(definition)?;
+        last = Some(definition);
         at = next;
     }
     Ok((definitions, at))

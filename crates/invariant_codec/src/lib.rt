@@ -3,6 +3,8 @@
 
 mod arrays;
 mod bounds;
+mod checking;
+mod constants;
 mod definitions;
 mod expressions;
 mod fault;
@@ -18,6 +20,7 @@ mod segments;
 mod states;
 mod variables;
 
+pub use checking::{check_invariant, fault_at};
 pub use fault::{InvFault, InvRefusal};
 pub use put_states::states_bytes;
 pub use states::read_states;

@@ -2,8 +2,8 @@
 
 ghost use Rattle.std.specs.Prelude.{◌≡◌, ◌+◌, ◌-◌, ◌≤◌, length};
 ghost use Rattle.cc_base.specs.Tests.{first_of, Judges, JudgesOrNoMemory};
-ghost use Rattle.invariant_codec.specs.Formats.{comes_next, in_order};
-ghost use Rattle.invariant_codec.specs.Parses.{IsRead};
+ghost use Rattle.invariant_codec.specs.Formats.{comes_after, in_order};
+ghost use Rattle.invariant_codec.specs.Parses.{IsPassed, IsRead};
 ghost use Rattle.invariant_codec.specs.Symbols.{next_row, other_symbol, row, row_precedes, rows};
 
 use crate::expressions::read_proper_name;
@@ -38,25 +38,30 @@ fn read_row(bytes: &[u8], at: u32, symbols: usize) -> Result<BoundRow, InvFault>
     Ok(BoundRow { s, t, k })
 }
 
-/// Returns whether a bound comes after the last of these.
-fn comes_next(rows: &[BoundRow], row: BoundRow) -> bool
-    ensures { result ≡ comes_next row_precedes rows.now row }
+/// Returns whether a bound comes after another one, if there is one.
+fn comes_after(last: Option<BoundRow>, row: BoundRow) -> bool
+    ensures { result ≡ comes_after row_precedes last row }
 {
-    match rows.last() {
+    match last {
         Some(last) => last.s < row.s || last.s == row.s && last.t < row.t,
         None => true,
     }
 }
 
-/// The bound at this offset, which comes after these.
+/// The bound at this offset, which comes after this one, if there is one.
 #[tactic(auto, using(cc_base::proofs::TestLemmas::appended, cc_base::proofs::TestLemmas::first_tests))]
-fn read_next(bytes: &[u8], at: u32, symbols: usize, rows: &[BoundRow]) -> Result<BoundRow, InvFault>
+fn read_next(
+    bytes: &[u8],
+    at: u32,
+    symbols: usize,
+    last: Option<BoundRow>,
+) -> Result<BoundRow, InvFault>
     requires short { length bytes.now ≤ 2147483647 }
-    ensures { Judges result (first_of ((next_row symbols rows.now).read bytes.now at).tests)
-        (λ r. IsRead bytes.now ((next_row symbols rows.now).read bytes.now at) r (at + 12)) }
+    ensures { Judges result (first_of ((next_row symbols last).read bytes.now at).tests)
+        (λ r. IsRead bytes.now ((next_row symbols last).read bytes.now at) r (at + 12)) }
 {
     let row = read_row(bytes, at, symbols)?;
-    if !comes_next(rows, row) {
+    if !comes_after(last, row) {
         return Err(InvFault::Form(at));
     }
     Ok(row)
@@ -77,10 +82,12 @@ fn read_each(
         (λ read. IsRead bytes.now ((in_order row_precedes (row symbols) count).read bytes.now start) read.0.items read.1) }
 {
     let mut rows = Vec::new(alloc);
+    let mut last = None;
     let mut at = start;
     for _row in 0..count {
-        let row = read_next(bytes, at, symbols, &rows)?;
+        let row = read_next(bytes, at, symbols, last)?;
         rows.push(row)?;
+        last = Some(row);
         at += 12;
     }
     Ok((rows, at))
@@ -100,4 +107,33 @@ pub(crate) fn read_rows(
 {
     let count = read_u32(bytes, at)?;
     read_each(alloc, bytes, at + 4, count, symbols)
+}
+
+/// Tests so many bounds from this offset on, and returns the offset after them.
+#[tactic(auto, using(crate::proofs::Passed::none_passed))]
+fn check_each(bytes: &[u8], start: u32, count: u32, symbols: usize) -> Result<u32, InvFault>
+    requires short { length bytes.now ≤ 2147483647 }
+    requires inside { start ≤ length bytes.now }
+    ensures { Judges result (first_of ((in_order row_precedes (row symbols) count).read bytes.now start).tests)
+        (IsPassed bytes.now ((in_order row_precedes (row symbols) count).read bytes.now start)) }
+{
+    let mut last = None;
+    let mut at = start;
+    for _row in 0..count {
+        let row = read_next(bytes, at, symbols, last)?;
+        last = Some(row);
+        at += 12;
+    }
+    Ok(at)
+}
+
+/// Tests bounds, after their count, and returns the offset after them.
+#[tactic(auto, using(cc_base::proofs::TestLemmas::appended), unfolding(crate::specs::Symbols::rows))]
+pub(crate) fn check_rows(bytes: &[u8], at: u32, symbols: usize) -> Result<u32, InvFault>
+    requires short { length bytes.now ≤ 2147483647 }
+    ensures { Judges result (first_of ((rows symbols).read bytes.now at).tests)
+        (IsPassed bytes.now ((rows symbols).read bytes.now at)) }
+{
+    let count = read_u32(bytes, at)?;
+    check_each(bytes, at + 4, count, symbols)
 }

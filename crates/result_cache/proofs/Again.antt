@@ -10,14 +10,15 @@ use Rattle.cc_base.specs.LittleEndian.{u32_at}
 use Rattle.cc_base.specs.Tests.{first_of, must}
 use Rattle.cc_base.proofs.ByteLemmas.{length-little_bytes}
 use Rattle.cc_base.proofs.TestLemmas.{first_of-append_none, first_of-none, first_of-nil, must_hold}
-use Rattle.result_cache.proofs.Stands.{after, lies, number_read}
-use Rattle.result_cache.specs.Invariants.{first_states_fault}
+use Rattle.invariant_codec.proofs.Stands.{after, lies, number_read}
+use Rattle.invariant_codec.specs.Invariants.{first_states_fault, IsInvariant}
 use Rattle.unit_form.specs.Forms.{form_of, is_form_number}
 use Rattle.unit_form.specs.declared.form.UnitForm.{UnitForm}
 use Rattle.unit_form.specs.declared.form.UnitForm.TheVariants.{First, Second}
 use Rattle.result_cache.specs.CacheFile.{counted_entries, entries_standing, entry_field, fault_inside, first_cache_fault, invariant_field, key_field, magic_tests}
-use Rattle.result_cache.specs.Entries.{AreEntriesBehind, Entry, is_among, IsInvariant, keys_of}
-use Rattle.result_cache.specs.Parses.{Parse, field, many, sized_field}
+use Rattle.result_cache.specs.Entries.{AreEntriesBehind, Entry, is_among, keys_of}
+use Rattle.invariant_codec.specs.Parses.{many}
+use Rattle.result_cache.specs.Parses.{Parse, field, sized_field}
 use Rattle.result_cache.specs.Spelling.{entry_bytes, file_bytes, IsCacheFile, magic, sized_bytes}
 use Rattle.result_cache.specs.declared.cache_fault.CacheFault.{CacheFault}
 use Rattle.result_cache.specs.declared.cache_fault.CacheFault.TheVariants.{Form}

@@ -5,7 +5,8 @@ use Rattle.std.specs.Map.{lookup}
 use Rattle.std.specs.Str.{bytes_eq}
 use Rattle.std.proofs.lemmas.List.Folds.{list_any-append}
 use Rattle.indexmap.specs.IndexMap.{insert_entry}
-use Rattle.result_cache.specs.Entries.{AreEntries, AreEntriesBehind, Entry, invariant_of, is_among, IsInvariant, keys_of, with_entry}
+use Rattle.invariant_codec.specs.Invariants.{IsInvariant}
+use Rattle.result_cache.specs.Entries.{AreEntries, AreEntriesBehind, Entry, invariant_of, is_among, keys_of, with_entry}
 use Rattle.result_cache.specs.Held.{HeldEntry, seen}
 
 -- ---- the entries alone

@@ -2,11 +2,11 @@
 use Rattle.std.proofs.Common.{◌≡◌, ℕ, ◌+◌, List, Some, None, ap, ◌∙◌, option_map}
 use Rattle.cc_base.specs.Tests.{first_of}
 use Rattle.cc_base.proofs.TestLemmas.{first_of-append_none, first_of-append_some, first_of-one}
-use Rattle.result_cache.specs.Invariants.{first_states_fault}
+use Rattle.invariant_codec.specs.Invariants.{first_states_fault, IsInvariant}
 use Rattle.invariant_codec.specs.declared.fault.InvFault.{InvFault}
 use Rattle.result_cache.specs.CacheFile.{fault_inside, invariant_field}
-use Rattle.result_cache.specs.Entries.{IsInvariant}
-use Rattle.result_cache.specs.Parses.{IsRead, sized_field}
+use Rattle.invariant_codec.specs.Parses.{IsRead}
+use Rattle.result_cache.specs.Parses.{sized_field}
 use Rattle.result_cache.specs.declared.cache_fault.CacheFault.{CacheFault}
 
 read : (bytes : List ℕ) (at : ℕ) (invariant : List ℕ) → first_of (sized_field bytes at).tests ≡ None

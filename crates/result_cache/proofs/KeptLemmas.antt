@@ -125,7 +125,7 @@ put_more entries place e before out one two is written first second =
 
 -- ---- the file
 
-entry_length : (e : Entry) → length (entry_bytes e) ≡ entry_size e
+pub entry_length : (e : Entry) → length (entry_bytes e) ≡ entry_size e
 unfolding entry_bytes
 entry_length e =
     omega (

@@ -4,7 +4,8 @@ use Rattle.std.specs.List.{AllByRecursion}
 use Rattle.cc_base.specs.LittleEndian.{u32_at}
 use Rattle.result_cache.specs.CacheFile.{counted_entries, entries_standing, entry_field, key_field}
 use Rattle.result_cache.specs.Entries.{Entry}
-use Rattle.result_cache.specs.Parses.{many, sized_field}
+use Rattle.invariant_codec.specs.Parses.{many}
+use Rattle.result_cache.specs.Parses.{sized_field}
 
 key_short : (bytes : List ℕ) (before : List Entry) (at most : ℕ) → length bytes ≤ most
     → length (entry_field bytes before at).value.0 ≤ most

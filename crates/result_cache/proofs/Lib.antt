@@ -1,11 +1,9 @@
-mod Stands
-mod FaultsInside
-mod Counted
-mod HeldLemmas
+pub mod HeldLemmas
 mod InvariantRead
 mod KeysRead
 mod Taken
-mod Again
+pub mod Again
 mod CacheAnswers
 mod FirstKeys
 mod KeptLemmas
+mod ShortEntries

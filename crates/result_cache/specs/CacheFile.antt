@@ -2,13 +2,13 @@
 use Rattle.std.specs.Prelude.{ℕ, ◌+◌, not, ◌==◌, nat_le, List, [], ◌∷◌, ◌++◌, length, slice_index, Option, option_map}
 use Rattle.cc_base.specs.LittleEndian.{u32_at}
 use Rattle.cc_base.specs.Tests.{first_of, must}
-use Rattle.result_cache.specs.Invariants.{fault_at}
-use Rattle.result_cache.specs.Invariants.{first_states_fault}
+use Rattle.invariant_codec.specs.Invariants.{fault_at, first_states_fault}
 use Rattle.invariant_codec.specs.declared.fault.InvFault.{InvFault}
 use Rattle.unit_form.specs.Forms.{form_of, is_form_number}
 use Rattle.result_cache.specs.Entries.{Entry, is_among, keys_of}
 use Rattle.result_cache.specs.FirstForm.{entries_told}
-use Rattle.result_cache.specs.Parses.{Parse, field, many, sized_field}
+use Rattle.invariant_codec.specs.Parses.{many}
+use Rattle.result_cache.specs.Parses.{Parse, field, sized_field}
 use Rattle.result_cache.specs.declared.cache_fault.CacheFault.{CacheFault}
 use Rattle.result_cache.specs.declared.cache_fault.CacheFault.TheVariants.{Form, Large, Version}
 

@@ -1,9 +1,9 @@
 -- The entries of a cache: keys, each with the bytes of an invariant.
-use Rattle.std.specs.Prelude.{◌≡◌, ℕ, Bool, false, List, [], ◌∷◌, ◌++◌, map, Option, None, if◌then◌else◌}
-use Rattle.std.specs.List.{list_any}
+use Rattle.std.specs.Prelude.{◌≡◌, ◌≤◌, ℕ, Bool, false, List, [], ◌∷◌, ◌++◌, length, map, Option, if◌then◌else◌}
+use Rattle.std.specs.List.{AllByRecursion, list_any}
 use Rattle.std.specs.Map.{lookup}
 use Rattle.std.specs.Str.{bytes_eq}
-use Rattle.result_cache.specs.Invariants.{first_states_fault}
+use Rattle.invariant_codec.specs.Invariants.{IsInvariant}
 
 -- The whole bytes of a unit, and the bytes of its invariant.
 abbrev pub Entry : Type 0
@@ -25,10 +25,6 @@ with_entry [] key invariant = (key, invariant) ∷ []
 with_entry (e ∷ es) key invariant =
     if bytes_eq key e.0 then (e.0, invariant) ∷ es else e ∷ with_entry es key invariant
 
--- The bytes spell the states of an invariant.
-abbrev pub IsInvariant : List ℕ → Type 0
-IsInvariant bytes = first_states_fault bytes ≡ None
-
 -- No key is one of these or of those before it, and beside each stands an invariant.
 abbrev pub AreEntriesBehind : List (List ℕ) → List Entry → Type 0
 AreEntriesBehind keys [] = Unit {0}
@@ -38,3 +34,7 @@ AreEntriesBehind keys (e ∷ es) =
 -- The keys are distinct, and beside each stands an invariant.
 abbrev pub AreEntries : List Entry → Type 0
 AreEntries entries = AreEntriesBehind [] entries
+
+-- No invariant has more bytes than a cache file may have.
+abbrev pub AreShort : List Entry → Type 0
+AreShort entries = AllByRecursion (λ e. length e.1 ≤ 67_108_864) entries

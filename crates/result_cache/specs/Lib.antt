@@ -1,4 +1,3 @@
-pub mod Invariants
 pub mod Entries
 pub mod Parses
 pub mod CacheFile

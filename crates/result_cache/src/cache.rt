@@ -1,11 +1,12 @@
 //! Invariants by the whole bytes of their units.
 
 ghost use Rattle.std.specs.Prelude.{◌≡◌, ◌++◌, [], ◌∷◌, false, length, option_map, slice_get, IfOk, IfSome, OnErr, OnOk};
-ghost use Rattle.result_cache.specs.Entries.{IsInvariant, invariant_of, is_among, keys_of, with_entry};
+ghost use Rattle.invariant_codec.specs.Invariants.{IsInvariant};
+ghost use Rattle.result_cache.specs.Entries.{invariant_of, is_among, keys_of, with_entry};
 ghost use Rattle.result_cache.specs.Spelling.{file_bytes, IsCacheFile, kept};
 ghost use Rattle.unit_form.specs.declared.form.UnitForm.TheVariants.{Second};
 
-use crate::cache_writer::cache_bytes;
+use crate::cache_writer::{Entries, cache_bytes};
 use cc_base::NoMemory;
 use indexmap::IndexMap;
 use std::alloc::Global;
@@ -114,5 +115,17 @@ impl Cache {
     {
         let _ = &self.invariants;
         cache_bytes(alloc, self)
+    }
+}
+
+impl Entries for Cache {
+    ghost entries = { λ cache. cache };
+
+    fn count(&self) -> usize {
+        self.len()
+    }
+
+    fn entry_at(&self, place: usize) -> Option<(&[u8], &[u8])> {
+        self.entry(place)
     }
 }

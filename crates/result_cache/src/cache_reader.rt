@@ -9,7 +9,7 @@ ghost use Rattle.unit_form.specs.Spelling.{HasCounts, unit_bytes, unit_spelling}
 ghost use Rattle.unit_form.specs.declared.form.UnitForm.{UnitForm as Form};
 ghost use Rattle.unit_form.specs.declared.form.UnitForm.TheVariants.{First};
 ghost use Rattle.result_cache.specs.CacheFile.{counted_entries, entries_of, entries_standing, first_cache_fault};
-ghost use Rattle.result_cache.specs.Entries.{Entry};
+ghost use Rattle.result_cache.specs.Entries.{AreShort, Entry};
 ghost use Rattle.result_cache.specs.FirstForm.{AreFirst, entries_told, second_key};
 ghost use Rattle.result_cache.specs.Spelling.{IsCacheFile, IsCacheOf, IsFileOf};
 
@@ -86,6 +86,7 @@ impl Cache {
         // The first form of a unit stands for its key in the second form, and nothing else does.
         ensures first { (unit : MethodUnit) → IsUnit unit → HasCounts First unit →
             second_key (unit_spelling First unit) ≡ Some (unit_bytes unit) }
+        ensures short { IfOk result AreShort }
         ensures firsts { IfOk result (λ _. form_of bytes.now ≡ First → AreFirst (entries_standing bytes.now)) }
     {
         read_told(alloc, bytes)

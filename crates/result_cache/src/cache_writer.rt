@@ -1,18 +1,31 @@
 //! Caches, written as their files.
 
-ghost use Rattle.std.specs.Prelude.{◌≡◌, ◌++◌, ◌-◌, ◌≤◌, length, nat_le, take, Some, None, if◌then◌else◌, IfOk, OnOk};
+ghost use Rattle.std.specs.Prelude.{◌≡◌, ◌++◌, ◌-◌, ◌≤◌, List, length, nat_le, option_map, slice_get, take, Some, None, if◌then◌else◌, IfOk, OnOk};
 ghost use Rattle.std.specs.List.{flat_map};
-ghost use Rattle.result_cache.specs.Entries.{AreEntries};
+ghost use Rattle.result_cache.specs.Entries.{AreEntries, Entry};
 ghost use Rattle.result_cache.specs.Spelling.{entry_bytes, entry_size, file_bytes, IsCacheFile, kept, kept_within, sized_bytes};
 ghost use Rattle.unit_form.specs.declared.form.UnitForm.TheVariants.{Second};
 
-use crate::cache::Cache;
 use crate::cache_reader::MAX_CACHE_BYTES;
 use cc_base::NoMemory;
 use std::alloc::Global;
 
 /// The most bytes of all entries of a file.
 const MAX_ENTRY_BYTES: usize = MAX_CACHE_BYTES - 8;
+
+/// The entries of a file that is to be written.
+pub trait Entries {
+    /// What they are, in order.
+    ghost entries: { Self → List Entry };
+
+    /// The number of them.
+    fn count(&self) -> usize
+        ensures { result ≡ length (entries self.now) };
+
+    /// The entry at this place.
+    fn entry_at(&self, place: usize) -> Option<(&[u8], &[u8])>
+        ensures { option_map (λ e. (e.0.now, e.1.now)) result ≡ slice_get (entries self.now) place };
+}
 
 /// The bytes that are left of so many behind an entry, where it has room.
 fn left_behind(left: usize, key: &[u8], invariant: &[u8]) -> Option<usize>
@@ -30,14 +43,14 @@ fn left_behind(left: usize, key: &[u8], invariant: &[u8]) -> Option<usize>
 }
 
 /// Returns how many entries a file has room for.
-fn kept_count(cache: &Cache) -> usize
-    ensures front { kept cache.now ≡ take result cache.now }
-    ensures within { result ≤ length cache.now }
+fn kept_count<E: Entries>(entries: &E) -> usize
+    ensures front { kept (E.entries entries.now) ≡ take result (E.entries entries.now) }
+    ensures within { result ≤ length (E.entries entries.now) }
     ensures few { result ≤ 67108864 }
 {
     let mut left = MAX_ENTRY_BYTES;
-    for place in 0..cache.len() {
-        let Some((key, invariant)) = cache.entry(place) else {
+    for place in 0..entries.count() {
+        let Some((key, invariant)) = entries.entry_at(place) else {
             return place;
         };
         let Some(rest) = left_behind(left, key, invariant) else {
@@ -45,7 +58,7 @@ fn kept_count(cache: &Cache) -> usize
         };
         left = rest;
     }
-    cache.len()
+    entries.count()
 }
 
 /// Appends bytes, after their length.
@@ -57,12 +70,12 @@ fn put_sized(out: &mut Vec<u8>, bytes: &[u8]) -> Result<(), NoMemory>
 }
 
 /// Appends the first entries, so many.
-fn put_entries(out: &mut Vec<u8>, cache: &Cache, count: usize) -> Result<(), NoMemory>
-    requires { count ≤ length cache.now }
-    ensures { OnOk result (out.new.items ≡ out.old.items ++ flat_map entry_bytes (take count cache.now)) }
+fn put_entries<E: Entries>(out: &mut Vec<u8>, entries: &E, count: usize) -> Result<(), NoMemory>
+    requires { count ≤ length (E.entries entries.now) }
+    ensures { OnOk result (out.new.items ≡ out.old.items ++ flat_map entry_bytes (take count (E.entries entries.now))) }
 {
     for place in 0..count {
-        let Some((key, invariant)) = cache.entry(place) else {
+        let Some((key, invariant)) = entries.entry_at(place) else {
             return Ok(());
         };
         put_sized(out, key)?;
@@ -73,22 +86,29 @@ fn put_entries(out: &mut Vec<u8>, cache: &Cache, count: usize) -> Result<(), NoM
 
 /// The file of the entries for which there is room.
 #[tactic(auto, unfolding(crate::specs::Spelling::file_bytes))]
-fn written(alloc: Global, cache: &Cache) -> Result<Vec<u8>, NoMemory>
-    ensures { IfOk result (λ bytes. bytes.items ≡ file_bytes Second (kept cache.now)) }
+fn written<E: Entries>(alloc: Global, entries: &E) -> Result<Vec<u8>, NoMemory>
+    ensures { IfOk result (λ bytes. bytes.items ≡ file_bytes Second (kept (E.entries entries.now))) }
 {
-    let count = kept_count(cache);
+    let count = kept_count(entries);
     let mut out = Vec::new(alloc);
     out.extend_from_slice(b"CCK2")?;
     out.extend_from_slice(&(count as u32).to_le_bytes())?;
-    put_entries(&mut out, cache, count)?;
+    put_entries(&mut out, entries, count)?;
     Ok(out)
 }
 
-/// The same, which is a cache file of these entries.
-pub fn cache_bytes(alloc: Global, cache: &Cache) -> Result<Vec<u8>, NoMemory>
-    requires { AreEntries cache.now }
-    ensures value { IfOk result (λ bytes. bytes.items ≡ file_bytes Second (kept cache.now)) }
-    ensures file { IfOk result (λ bytes. IsCacheFile Second (kept cache.now) bytes.items) }
+/// The file of the second form that has these entries, up to the first with which it would have more than 67,108,864
+/// bytes.
+///
+/// # Errors
+///
+/// Want of memory.
+///
+/// Cost: linear in the number of bytes.
+pub fn cache_bytes<E: Entries>(alloc: Global, entries: &E) -> Result<Vec<u8>, NoMemory>
+    requires { AreEntries (E.entries entries.now) }
+    ensures value { IfOk result (λ bytes. bytes.items ≡ file_bytes Second (kept (E.entries entries.now))) }
+    ensures file { IfOk result (λ bytes. IsCacheFile Second (kept (E.entries entries.now)) bytes.items) }
 {
-    written(alloc, cache)
+    written(alloc, entries)
 }

@@ -3,14 +3,15 @@
 ghost use Rattle.std.specs.Prelude.{◌≡◌, ◌≤◌, ◌++◌, [], ◌∷◌, false, length};
 ghost use Rattle.cc_base.specs.Tests.{first_of, Judges, JudgesOrNoMemory};
 ghost use Rattle.result_cache.specs.CacheFile.{entry_field, entry_fields, invariant_field, key_field};
-ghost use Rattle.result_cache.specs.Entries.{IsInvariant, is_among, keys_of};
-ghost use Rattle.result_cache.specs.Parses.{IsRead};
+ghost use Rattle.invariant_codec.specs.Invariants.{IsInvariant};
+ghost use Rattle.result_cache.specs.Entries.{is_among, keys_of};
+ghost use Rattle.invariant_codec.specs.Parses.{IsRead};
 
 use crate::cache::Cache;
 use crate::cache_fault::{CacheFault, CacheRefusal};
 use crate::fields::read_sized;
-use crate::invariant_check::{check_invariant, fault_at};
 use cc_base::Refusal;
+use invariant_codec::{check_invariant, fault_at};
 use std::alloc::Global;
 
 /// The key at this offset, where these entries have no such key, and the offset after it.
@@ -58,7 +59,7 @@ fn read_entry(alloc: Global, bytes: &[u8], at: u32, cache: &mut Cache) -> Result
 }
 
 /// So many entries from this offset on, and the offset after them.
-#[tactic(auto, using(crate::proofs::Counted::none_read, crate::proofs::Counted::all_read))]
+#[tactic(auto, using(invariant_codec::proofs::Counted::none_read, invariant_codec::proofs::Counted::all_read))]
 pub fn read_each(
     alloc: Global,
     bytes: &[u8],

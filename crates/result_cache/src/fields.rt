@@ -4,7 +4,8 @@ ghost use Rattle.std.specs.Prelude.{◌≡◌, ◌+◌, ◌≤◌, length};
 ghost use Rattle.cc_base.specs.LittleEndian.{u32_at};
 ghost use Rattle.cc_base.specs.Tests.{first_of, Judges};
 ghost use Rattle.result_cache.specs.CacheFile.{magic_tests};
-ghost use Rattle.result_cache.specs.Parses.{field, IsRead, sized_field};
+ghost use Rattle.invariant_codec.specs.Parses.{IsRead};
+ghost use Rattle.result_cache.specs.Parses.{field, sized_field};
 ghost use Rattle.unit_form.specs.Forms.{form_of};
 
 use crate::cache_fault::CacheFault;

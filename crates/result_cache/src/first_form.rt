@@ -3,7 +3,8 @@
 ghost use Rattle.std.specs.Prelude.{◌≡◌, ℕ, ◌≤◌, List, Some, filter_map, length, option_map, IfOk, OnOk};
 ghost use Rattle.std.specs.List.{AllByRecursion};
 ghost use Rattle.std.specs.Option.{option_map_or};
-ghost use Rattle.result_cache.specs.Entries.{AreEntries, IsInvariant, with_entry};
+ghost use Rattle.invariant_codec.specs.Invariants.{IsInvariant};
+ghost use Rattle.result_cache.specs.Entries.{AreEntries, with_entry};
 ghost use Rattle.result_cache.specs.FirstForm.{AreFirst, has_first_number, IsFirstOf, second_entry, second_key};
 
 use crate::cache::Cache;

@@ -8,8 +8,7 @@ mod cache_writer;
 mod entry_reader;
 mod fields;
 mod first_form;
-mod invariant_check;
 
 pub use cache::Cache;
 pub use cache_fault::{CacheFault, CacheRefusal};
-pub use invariant_check::check_invariant;
+pub use cache_writer::{Entries, cache_bytes};

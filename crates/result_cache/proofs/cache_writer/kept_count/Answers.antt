@@ -3,19 +3,19 @@ use Rattle.result_cache.proofs.KeptLemmas.{room_ends, room_next, room_none, room
 use Rattle.result_cache.proofs.cache_writer.kept_count.Goals as goal
 
 pub loop-place-init : goal.loop-place-init
-loop-place-init c = room_none c.args.cache.now
+loop-place-init g c = room_none (g.E.Entries.entries c.args.entries.now)
 
 pub returns-in_default-clause-front : goal.returns-in_default-clause-front
-returns-in_default-clause-front c =
-    room_past c.args.cache.now c.loop-place.place c.loop-place.left (sym c.in_default.ensures.entry) c.loop-place.invariant
+returns-in_default-clause-front g c =
+    room_past (g.E.Entries.entries c.args.entries.now) c.loop-place.place c.loop-place.left (sym c.in_default.ensures) c.loop-place.invariant
 
 pub returns-in_default-left_behind-clause-front : goal.returns-in_default-left_behind-clause-front
-returns-in_default-left_behind-clause-front c =
-    room_ends c.args.cache.now c.loop-place.place c.loop-place.left (c.in-Some.key.now, c.in-Some.invariant.now)
-    c.loop-place.invariant (sym c.in-Some.ensures.entry) (sym c.in_default-left_behind.ensures)
+returns-in_default-left_behind-clause-front g c =
+    room_ends (g.E.Entries.entries c.args.entries.now) c.loop-place.place c.loop-place.left (c.in-Some.key.now, c.in-Some.invariant.now)
+    c.loop-place.invariant (sym c.in-Some.ensures) (sym c.in_default-left_behind.ensures)
 
 pub loop-place-preserved : goal.loop-place-preserved
-loop-place-preserved c =
-    room_next c.args.cache.now c.loop-place.place c.loop-place.left c.in-Some-left_behind.rest
+loop-place-preserved g c =
+    room_next (g.E.Entries.entries c.args.entries.now) c.loop-place.place c.loop-place.left c.in-Some-left_behind.rest
     (c.in-Some.key.now, c.in-Some.invariant.now)
-    c.loop-place.invariant (sym c.in-Some.ensures.entry) c.in-Some-left_behind.ensures
+    c.loop-place.invariant (sym c.in-Some.ensures) c.in-Some-left_behind.ensures

@@ -1,7 +1,7 @@
 use Rattle.std.proofs.Common.{rules, refl}
 use Rattle.cc_base.proofs.TestLemmas.{refusal-carried}
 use Rattle.result_cache.specs.CacheFile.{entry_field}
-use Rattle.result_cache.proofs.Counted.{read_next, read_fault}
+use Rattle.invariant_codec.proofs.Counted.{read_next, read_fault}
 use Rattle.result_cache.proofs.entry_reader.read_each.Goals as goal
 
 pub loop-entry-preserved : goal.loop-entry-preserved

@@ -1,6 +1,6 @@
 use Rattle.std.proofs.Common.{◌-◌, ◌≤◌, length}
 use Rattle.result_cache.specs.CacheFile.{entry_field}
-use Rattle.result_cache.proofs.Counted.{AreRead}
+use Rattle.invariant_codec.proofs.Counted.{AreRead}
 use Rattle.result_cache.proofs.entry_reader.read_each.Given as goal
 
 abbrev pub invariant-loop-entry : goal.invariant-loop-entry

@@ -1,5 +1,5 @@
 use Rattle.std.proofs.Common.{[], Some, None, ap, sym, subst, ◌∙◌}
-use Rattle.result_cache.specs.Entries.{IsInvariant}
+use Rattle.invariant_codec.specs.Invariants.{IsInvariant}
 use Rattle.result_cache.proofs.HeldLemmas.{found_is, got_seen}
 use Rattle.result_cache.proofs.cache.Cache.get.Goals as goal
 

@@ -18,7 +18,7 @@ use Rattle.invariant_codec.specs.declared.fault.InvFault.TheVariants.{Form, Shor
 use Rattle.domain_api.specs.declared.expr.Expr.{Expr}
 use Rattle.alias_facts.specs.PairsOf.{comes_before}
 use Rattle.frame_names.specs.declared.var.Var.TheVariants as vars
-use Rattle.result_cache.specs.Invariants.{fault_at, first_states_fault}
+use Rattle.invariant_codec.specs.Invariants.{fault_at, first_states_fault}
 
 -- Each fault of tests is inside, and where none fails, so is what stands behind them.
 record IsInside (bytes : List ℕ) (tests : List (Option InvFault)) (next : ℕ) : Type 0 where
