@@ -5,7 +5,7 @@ use Rattle.cc_base.specs.Sink.{appended, counted, AppendsFront}
 use Rattle.cc_base.proofs.SinkLemmas.{appended-appended, appended-nil, IsFront-nil, AppendsFront-all, AppendsFront-front}
 use Rattle.answer_lines.specs.Answers.{Answer, unread_line, UNWRITTEN_LINE, NO_MEMORY_LINE}
 use Rattle.answer_lines.specs.LineCounts.{line_count}
-use Rattle.answer_lines.specs.Outcome.{GivesOrUnread, Leaves, Interrupted, last_line, status_of}
+use Rattle.answer_lines.specs.Outcome.{GivesOrFails, GivesOrUnread, IsUnreplaced, Leaves, Interrupted, last_line, status_of}
 use Rattle.answer_lines.specs.Writing.{Change}
 use Rattle.answer_lines.proofs.LineLemmas.{unread_is_line}
 use Rattle.answer_lines.proofs.Writings.{change}
@@ -25,12 +25,14 @@ unwritten_front : (out : Change) (text : List ℕ) → AppendsFront out.old out.
 unwritten_front out text h = AppendsFront-front out.old out.new [] text h (IsFront-nil text)
 
 -- What was written is a prefix of what is expected, whatever came of it.
-pub front_given : (x : Answer) (names : List (List ℕ)) (failed : Type 0) (r : Result ℕ Interrupt) (out err : Change)
-    → GivesOrUnread x names failed r out err → AppendsFront out.old out.new x.out
-front_given x names failed (Ok status) out err (inl g) = AppendsFront-all out.old out.new x.out g.out_all
-front_given x names failed (Ok status) out err (inr (f, (k, name, lt, at, g))) = unwritten_front out x.out (AppendsFront-all out.old out.new [] g.out_all)
-front_given x names failed (Err i) out err (inl g) = g.out_front
-front_given x names failed (Err i) out err (inr (f, (k, name, lt, at, g))) = unwritten_front out x.out g.out_front
+pub front_given : (x : Answer) (names : List (List ℕ)) (failed unreplaced : Type 0) (r : Result ℕ Interrupt) (out err : Change)
+    → GivesOrFails x names failed unreplaced r out err → AppendsFront out.old out.new x.out
+front_given x names failed unreplaced (Ok status) out err (inl (inl g)) = AppendsFront-all out.old out.new x.out g.out_all
+front_given x names failed unreplaced (Ok status) out err (inl (inr (f, (k, name, lt, at, g)))) =
+    unwritten_front out x.out (AppendsFront-all out.old out.new [] g.out_all)
+front_given x names failed unreplaced (Err i) out err (inl (inl g)) = g.out_front
+front_given x names failed unreplaced (Err i) out err (inl (inr (f, (k, name, lt, at, g)))) = unwritten_front out x.out g.out_front
+front_given x names failed unreplaced r out err (inr (f, u)) = AppendsFront-all out.old out.new x.out u.out_all
 
 -- ---- an answer that came
 
@@ -70,38 +72,46 @@ two_fronts : (old mid new : Option (List ℕ)) (text line : List ℕ) (p0 p2 : O
 two_fronts old mid new text line p0 p2 before after (first, infirst, m) (second, insecond, n) =
     (first, second, infirst, insecond, n ∙ ap (λ (o : Option (List ℕ)). appended o second) m ∙ appended-appended old first second)
 
--- Both ways in which a call that was interrupted can have begun.
-begun : (x : Answer) (names : List (List ℕ)) (failed : Type 0) (i : Interrupt) (out : Change) (old mid new : Option (List ℕ)) (p0 p1 p2 : Option ℕ) (g0 g1 g2 : ℕ) (line : List ℕ)
-    → GivesOrUnread x names failed (Err i) out (change old mid p0 p1 g0 g1) → AppendsFront mid new line
+-- The ways in which a call that was interrupted can have begun.
+begun : (x : Answer) (names : List (List ℕ)) (failed unreplaced : Type 0) (i : Interrupt) (out : Change) (old mid new : Option (List ℕ)) (p0 p1 p2 : Option ℕ) (g0 g1 g2 : ℕ) (line : List ℕ)
+    → GivesOrFails x names failed unreplaced (Err i) out (change old mid p0 p1 g0 g1) → AppendsFront mid new line
     → Interrupted line x.err (change old new p0 p2 g0 g2) ⊎ (failed × Any (λ name. Interrupted line (unread_line name) (change old new p0 p2 g0 g2)) names)
-begun x names failed i out old mid new p0 p1 p2 g0 g1 g2 line (inl g) tried = inl (two_fronts old mid new x.err line p0 p2 g0 g2 g.err_front tried)
-begun x names failed i out old mid new p0 p1 p2 g0 g1 g2 line (inr (f, (k, name, lt, at, g))) tried =
+begun x names failed unreplaced i out old mid new p0 p1 p2 g0 g1 g2 line (inl (inl g)) tried = inl (two_fronts old mid new x.err line p0 p2 g0 g2 g.err_front tried)
+begun x names failed unreplaced i out old mid new p0 p1 p2 g0 g1 g2 line (inl (inr (f, (k, name, lt, at, g)))) tried =
     inr (f, (k, name, lt, at, two_fronts old mid new (unread_line name) line p0 p2 g0 g2 g.err_front tried))
+begun x names failed unreplaced i out old mid new p0 p1 p2 g0 g1 g2 line (inr (f, u)) tried =
+    inl (two_fronts old mid new x.err line p0 p2 g0 g2 (AppendsFront-all old mid x.err u.err_all) tried)
 
 -- ---- the end of a call
 
+-- An answer is no interruption.
+never_interrupted : (r : Result ℕ Interrupt) (status : ℕ) → r ≡ Ok status → r ≡ Err interrupts.CannotWrite → ⊥
+never_interrupted r status answered is = cc
+
 -- The status and the last line end the call.
-pub leaves : (x : Answer) (names : List (List ℕ)) (failed : Type 0) (r : Result ℕ Interrupt) (out : Change) (old mid new : Option (List ℕ)) (p0 p1 p2 : Option ℕ) (g0 g1 g2 : ℕ)
-    → IsUninterrupted x.status → GivesOrUnread x names failed r out (change old mid p0 p1 g0 g1) → AppendsFront mid new (last_line r)
+pub leaves : (x : Answer) (names : List (List ℕ)) (failed unreplaced : Type 0) (r : Result ℕ Interrupt) (out : Change) (old mid new : Option (List ℕ)) (p0 p1 p2 : Option ℕ) (g0 g1 g2 : ℕ)
+    → IsUninterrupted x.status → GivesOrFails x names failed unreplaced r out (change old mid p0 p1 g0 g1) → AppendsFront mid new (last_line r)
     → IfOk r (λ _. p2 ≡ p1) → Leaves x names failed (status_of r) out (change old new p0 p2 g0 g2)
-leaves x names failed (Ok status) out old mid new p0 p1 p2 g0 g1 g2 plain gives tried kept = leaves_answer x names failed status out old mid new p0 p1 p2 g0 g1 g2 (same_behind mid new tried) kept plain gives
-leaves x names failed (Err interrupts.CannotWrite) out old mid new p0 p1 p2 g0 g1 g2 plain gives tried kept = record {
+leaves x names failed unreplaced (Ok status) out old mid new p0 p1 p2 g0 g1 g2 plain (inl gives) tried kept =
+    leaves_answer x names failed status out old mid new p0 p1 p2 g0 g1 g2 (same_behind mid new tried) kept plain gives
+leaves x names failed unreplaced (Ok status) out old mid new p0 p1 p2 g0 g1 g2 plain (inr (f, u)) tried kept = absurd (never_interrupted (Ok status) status refl u.interrupted)
+leaves x names failed unreplaced (Err interrupts.CannotWrite) out old mid new p0 p1 p2 g0 g1 g2 plain gives tried kept = record {
   answered = λ a b c. absurd (b refl);
   lines = λ a b c. absurd (b refl);
-  front = front_given x names failed (Err interrupts.CannotWrite) out (change old mid p0 p1 g0 g1) gives;
+  front = front_given x names failed unreplaced (Err interrupts.CannotWrite) out (change old mid p0 p1 g0 g1) gives;
   unread = λ e. absurd (omega (arith, e));
   unread_out = λ e. absurd (omega (arith, e));
   unread_lines = λ e. absurd (omega (arith, e));
-  unwritten = λ e. begun x names failed interrupts.CannotWrite out old mid new p0 p1 p2 g0 g1 g2 UNWRITTEN_LINE gives tried;
+  unwritten = λ e. begun x names failed unreplaced interrupts.CannotWrite out old mid new p0 p1 p2 g0 g1 g2 UNWRITTEN_LINE gives tried;
   no_memory = λ e. absurd (omega (arith, e));
 }
-leaves x names failed (Err interrupts.NoMemory) out old mid new p0 p1 p2 g0 g1 g2 plain gives tried kept = record {
+leaves x names failed unreplaced (Err interrupts.NoMemory) out old mid new p0 p1 p2 g0 g1 g2 plain gives tried kept = record {
   answered = λ a b c. absurd (c refl);
   lines = λ a b c. absurd (c refl);
-  front = front_given x names failed (Err interrupts.NoMemory) out (change old mid p0 p1 g0 g1) gives;
+  front = front_given x names failed unreplaced (Err interrupts.NoMemory) out (change old mid p0 p1 g0 g1) gives;
   unread = λ e. absurd (omega (arith, e));
   unread_out = λ e. absurd (omega (arith, e));
   unread_lines = λ e. absurd (omega (arith, e));
   unwritten = λ e. absurd (omega (arith, e));
-  no_memory = λ e. begun x names failed interrupts.NoMemory out old mid new p0 p1 p2 g0 g1 g2 NO_MEMORY_LINE gives tried;
+  no_memory = λ e. begun x names failed unreplaced interrupts.NoMemory out old mid new p0 p1 p2 g0 g1 g2 NO_MEMORY_LINE gives tried;
 }

@@ -7,3 +7,4 @@ pub mod FirstLines
 pub mod Writings
 pub mod Leaving
 pub mod Causes
+pub mod Replacing

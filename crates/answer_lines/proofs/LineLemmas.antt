@@ -6,7 +6,7 @@ use Rattle.cc_base.specs.Digits.{hex, hex_digit}
 use Rattle.cc_base.specs.Escapes.{escaped, escaped_byte, is_plain}
 use Rattle.cc_base.specs.Sink.{counted}
 use Rattle.cc_base.proofs.SinkLemmas.{counted-counted}
-use Rattle.answer_lines.specs.Answers.{error_line, misfit_line, missing_line, refused_line, unread_line}
+use Rattle.answer_lines.specs.Answers.{cache_line, error_line, misfit_line, missing_line, refused_line, unread_line}
 use Rattle.answer_lines.specs.LineCounts.{line_count}
 
 -- Two texts have the lines of both.
@@ -89,4 +89,11 @@ refused_is_line name fault at none =
     (none_behind (begun ++ codes ": ") fault
     (none_behind begun (codes ": ") (none_behind (codes "refused ") (escaped name) refl (none_in_name name)) refl) none) refl) (none_in_hex 8 at))
 
-pub ruleset lines = (line_count-append, counted-lines, puts_none, missing_is_line, unread_is_line, misfit_is_line, refused_is_line)
+pub cache_is_line : (name fault : List ℕ) → line_count fault ≡ 0 → line_count (cache_line name fault) ≡ 1
+unfolding line_count
+cache_is_line name fault none =
+    let begun = codes "cache " ++ escaped name in
+    error_is_line (begun ++ codes ": " ++ fault)
+    (none_behind (begun ++ codes ": ") fault (none_behind begun (codes ": ") (none_behind (codes "cache ") (escaped name) refl (none_in_name name)) refl) none)
+
+pub ruleset lines = (line_count-append, counted-lines, puts_none, missing_is_line, unread_is_line, misfit_is_line, refused_is_line, cache_is_line)

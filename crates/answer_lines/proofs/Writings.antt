@@ -23,7 +23,7 @@ change old new puts_before puts_after before after =
     record { old = old; new = new; puts_before = puts_before; puts_after = puts_after; faults_before = before; faults_after = after }
 
 -- A call that was interrupted as another one gives the same error.
-retold : {X Y : Type 0} (e f : Interrupt) → IsErrOf {T = X} (Err e) f → IsErrOf {T = Y} (Err e) f
+pub retold : {X Y : Type 0} (e f : Interrupt) → IsErrOf {T = X} (Err e) f → IsErrOf {T = Y} (Err e) f
 retold interrupts.CannotWrite interrupts.CannotWrite h = refl
 retold interrupts.NoMemory interrupts.NoMemory h = refl
 retold interrupts.CannotWrite interrupts.NoMemory h = absurd cc

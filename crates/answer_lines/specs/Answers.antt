@@ -24,6 +24,10 @@ unread_line name = error_line (codes "cannot read " ++ escaped name)
 abbrev pub refused_line : List ℕ → List ℕ → ℕ → List ℕ
 refused_line name fault at = error_line (codes "refused " ++ escaped name ++ codes ": " ++ fault ++ codes " at " ++ hex 8 at)
 
+-- A cache that is refused, with the words of its fault.
+abbrev pub cache_line : List ℕ → List ℕ → List ℕ
+cache_line name fault = error_line (codes "cache " ++ escaped name ++ codes ": " ++ fault)
+
 abbrev pub misfit_line : List ℕ → List ℕ
 misfit_line reason = error_line (codes "does not fit: " ++ reason)
 

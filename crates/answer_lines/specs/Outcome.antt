@@ -7,6 +7,10 @@ use Rattle.answer_lines.specs.Writing.{Change, PutsLines}
 use Rattle.answer_lines.specs.declared.interrupt.Interrupt.{Interrupt}
 use Rattle.answer_lines.specs.declared.interrupt.Interrupt.TheVariants as interrupts
 
+-- An answer after a line on the sink of errors.
+abbrev pub after_line : List ℕ → Answer → Answer
+after_line line answer = record { out = answer.out; err = line ++ answer.err; status = answer.status }
+
 -- The whole text was written to the sink.
 abbrev pub WritesAll : Change → List ℕ → Type 0
 WritesAll sink text = sink.new ≡ appended sink.old text
@@ -34,6 +38,20 @@ unread_answer name = error_answer 4 (unread_line name)
 abbrev pub GivesOrUnread : Answer → List (List ℕ) → Type 0 → Result ℕ Interrupt → Change → Change → Type 0
 GivesOrUnread expected names failed result out err =
     Gives expected result out err ⊎ (failed × Any (λ name. Gives (unread_answer name) result out err) names)
+
+-- The whole answer was written, and then the call was interrupted by a fault of the files.
+pub record IsUnreplaced (answer : Answer) (result : Result ℕ Interrupt) (out err : Change) : Type 0 where
+  pub interrupted : result ≡ Err interrupts.CannotWrite
+  pub out_all : WritesAll out answer.out
+  pub err_all : WritesAll err answer.err
+  pub out_kept : Kept out.faults_before out.faults_after
+  pub err_kept : Kept err.faults_before err.faults_after
+
+-- The call gave what is expected, or the answer that one of these files was not read, only where a device refused a read
+-- in it, or was interrupted after all that is expected, only where one refused to replace a file.
+abbrev pub GivesOrFails : Answer → List (List ℕ) → Type 0 → Type 0 → Result ℕ Interrupt → Change → Change → Type 0
+GivesOrFails expected names unread unreplaced result out err =
+    GivesOrUnread expected names unread result out err ⊎ (unreplaced × IsUnreplaced expected result out err)
 
 -- The status of a call that ended so.
 abbrev pub status_of : Result ℕ Interrupt → ℕ

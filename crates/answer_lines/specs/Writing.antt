@@ -5,6 +5,8 @@ use Rattle.std.specs.declared.alloc.Global.{Global}
 use Rattle.std.specs.declared.vec.Vec.{Vec}
 use Rattle.cc_base.specs.Counts.{Rose, Kept}
 use Rattle.cc_base.specs.Sink.{appended, counted, AppendsFront}
+use Rattle.cc_base.specs.declared.files.ReplaceRefusal.{ReplaceRefusal}
+use Rattle.cc_base.specs.declared.files.ReplaceRefusal.TheVariants as unreplaced
 use Rattle.cc_base.specs.declared.sink.PutRefusal.{PutRefusal}
 use Rattle.cc_base.specs.declared.sink.PutRefusal.TheVariants as refusals
 use Rattle.answer_lines.specs.LineCounts.{line_count}
@@ -15,6 +17,11 @@ use Rattle.answer_lines.specs.declared.interrupt.Interrupt.TheVariants as interr
 abbrev pub interrupt_of : PutRefusal → Interrupt
 interrupt_of refusals.Failed = interrupts.CannotWrite
 interrupt_of refusals.NoMemory = interrupts.NoMemory
+
+-- How a file that was not replaced interrupts a call.
+abbrev pub interrupt_by_replace : ReplaceRefusal → Interrupt
+interrupt_by_replace unreplaced.Failed = interrupts.CannotWrite
+interrupt_by_replace unreplaced.NoMemory = interrupts.NoMemory
 
 -- A sink, before and after: what is told of it, how often bytes were put, and its count of faults.
 pub record Change : Type 0 where

@@ -1,7 +1,7 @@
 //! The lines on the sink of errors.
 
 ghost use Rattle.std.specs.Prelude.{◌≡◌, IfOk};
-ghost use Rattle.answer_lines.specs.Answers.{misfit_line, missing_line, unread_line, refused_line};
+ghost use Rattle.answer_lines.specs.Answers.{cache_line, misfit_line, missing_line, unread_line, refused_line};
 
 use cc_base::{append_escaped, put_hex};
 use std::alloc::{AllocError, Global};
@@ -32,6 +32,18 @@ pub fn unread_line(alloc: Global, name: &[u8]) -> Result<Vec<u8>, AllocError>
 {
     let mut line = Vec::from_slice(alloc, b"cccheck: cannot read ")?;
     append_escaped(alloc, &mut line, name)?;
+    line.extend_from_slice(b"\n")?;
+    Ok(line)
+}
+
+/// The line of a cache that is refused, with the words of its fault.
+pub fn cache_line(alloc: Global, name: &[u8], fault: &[u8]) -> Result<Vec<u8>, AllocError>
+    ensures { IfOk result (λ line. line.items ≡ cache_line name.now fault.now) }
+{
+    let mut line = Vec::from_slice(alloc, b"cccheck: cache ")?;
+    append_escaped(alloc, &mut line, name)?;
+    line.extend_from_slice(b": ")?;
+    line.extend_from_slice(fault)?;
     line.extend_from_slice(b"\n")?;
     Ok(line)
 }

@@ -2,15 +2,15 @@
 
 ghost use Rattle.std.specs.Prelude.{◌≡◌};
 ghost use Rattle.answer_lines.specs.declared.interrupt.Interrupt.TheVariants.{CannotWrite, NoMemory};
-ghost use Rattle.answer_lines.specs.Writing.{interrupt_of};
+ghost use Rattle.answer_lines.specs.Writing.{interrupt_by_replace, interrupt_of};
 
-use cc_base::PutRefusal;
+use cc_base::{PutRefusal, ReplaceRefusal};
 use std::alloc::{AllocError, AllocFailed};
 
 /// Why a call ended before its answer was whole.
 #[derive(Clone, Copy)]
 pub enum Interrupt {
-    /// A sink refused.
+    /// A sink refused, or a file was not replaced.
     CannotWrite,
     /// Memory ran out.
     NoMemory,
@@ -39,6 +39,17 @@ impl From<PutRefusal> for Interrupt {
         match refusal {
             PutRefusal::Failed => Interrupt::CannotWrite,
             PutRefusal::NoMemory => Interrupt::NoMemory,
+        }
+    }
+}
+
+impl From<ReplaceRefusal> for Interrupt {
+    ghost from_gives = { λ refusal e. e ≡ interrupt_by_replace refusal };
+
+    fn from(refusal: ReplaceRefusal) -> Interrupt {
+        match refusal {
+            ReplaceRefusal::Failed => Interrupt::CannotWrite,
+            ReplaceRefusal::NoMemory => Interrupt::NoMemory,
         }
     }
 }

@@ -3,11 +3,11 @@
 #![tactic(auto, using(cc_base::proofs::SinkLemmas::sinks, cc_base::proofs::CountLemmas::counts, crate::proofs::LineLemmas::lines))]
 
 ghost use Rattle.std.specs.Prelude.{◌≡◌, IfOk};
-ghost use Rattle.answer_lines.specs.Answers.{misfit_line, missing_line, refused_line, unread_line};
+ghost use Rattle.answer_lines.specs.Answers.{cache_line, misfit_line, missing_line, refused_line, unread_line};
 ghost use Rattle.answer_lines.specs.LineCounts.{AreLines, line_count};
 ghost use Rattle.answer_lines.specs.Writing.{Writes, change_of, joined};
 
-use crate::errors::{misfit_line, missing_line, refused_line, unread_line};
+use crate::errors::{cache_line, misfit_line, missing_line, refused_line, unread_line};
 use crate::interrupt::Interrupt;
 use cc_base::Sink;
 use std::alloc::Global;
@@ -30,6 +30,20 @@ pub fn put_lines<S: Sink>(alloc: Global, sink: &mut S, lines: &[Vec<u8>]) -> Res
         put_line(alloc, sink, line)?;
     }
     Ok(())
+}
+
+/// Puts the line of a cache of this name that is refused, with the words of its fault.
+pub fn put_cache_line<E: Sink>(
+    alloc: Global,
+    name: &[u8],
+    fault: &[u8],
+    err: &mut E,
+) -> Result<(), Interrupt>
+    requires { line_count fault.now ≡ 0 }
+    ensures { Writes result (change_of E.written E.puts E.faults err.old err.new) (cache_line name.now fault.now) }
+{
+    let line = cache_line(alloc, name, fault)?;
+    put_line(alloc, err, &line)
 }
 
 /// Answers by one line on the sink of errors, and a status.

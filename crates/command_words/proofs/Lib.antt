@@ -1,2 +1,4 @@
+pub mod WordBytes
 pub mod RunWordLemmas
 pub mod CheckWordLemmas
+pub mod UsedIndexes

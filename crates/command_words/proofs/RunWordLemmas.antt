@@ -1,20 +1,16 @@
 -- Words and their bytes.
-use Rattle.std.proofs.Common.{◌≡◌, ℕ, ◌-◌, All, Bool, true, List, length, take, drop, String, Global, if◌then◌else◌, Option, Some, None, ap, sym, ◌∙◌}
+use Rattle.std.proofs.Common.{◌≡◌, ℕ, ◌-◌, All, true, List, length, take, drop, String, Global, if◌then◌else◌, Option, Some, None, ap, sym, ◌∙◌}
 use Rattle.std.specs.Bool.{IsTrue}
 use Rattle.std.specs.Option.{IfSome}
 use Rattle.std.specs.List.{list_all}
 use Rattle.std.specs.String.{string_bytes}
 use Rattle.std.proofs.lemmas.List.{drop-map, length-map, take-map}
-use Rattle.std.proofs.lemmas.List.Folds.{list_all-map}
 use Rattle.std.proofs.lemmas.List.Sums.{AllPass-from_list_all}
 use Rattle.run_arguments.specs.Arguments.{is_argument}
 use Rattle.command_words.specs.declared.command.Command.{Command}
 use Rattle.command_words.specs.declared.command.Command.TheVariants as commands
+use Rattle.command_words.proofs.WordBytes.{all_words}
 use Rattle.command_words.specs.Words.{HasArguments, IfRun, run_args, tells_steps, words_bytes}
-
--- A test of the bytes of each word.
-pub all_words : (p : List ℕ → Bool) (words : List (String Global)) → list_all (λ word. p (string_bytes word)) words ≡ list_all p (words_bytes words)
-all_words p words = sym (list_all-map p (λ (word : String Global). string_bytes word) words)
 
 -- The bytes of some words on the way.
 pub words_between : (n first : ℕ) (words : List (String Global)) → words_bytes (take n (drop first words)) ≡ take n (drop first (words_bytes words))

@@ -1,5 +1,5 @@
 -- The grammar of the program's words.
-use Rattle.std.specs.Prelude.{◌≡◌, ℕ, ◌+◌, ◌-◌, ◌^◌, ◌≤◌, true, Bool, false, not, nat_le, nat_lt, List, [], ◌∷◌, length, map, take, drop, Option, Some, None, option_map, ◌==◌, ◌&&◌, ◌||◌, if◌then◌else◌, codes, slice_index_or, filter, position}
+use Rattle.std.specs.Prelude.{◌≡◌, ℕ, ◌+◌, ◌-◌, ◌*◌, ◌^◌, ◌≤◌, true, Bool, false, not, nat_le, nat_lt, List, [], ◌∷◌, ◌++◌, length, map, take, drop, Option, Some, None, option_map, option_and_then, option_to_list, ◌==◌, ◌&&◌, ◌||◌, if◌then◌else◌, codes, slice_index_or, filter, position}
 use Rattle.std.specs.List.{count_by, list_all, range_with_len}
 use Rattle.std.specs.Str.{bytes_eq}
 use Rattle.std.specs.String.{string_bytes}
@@ -68,36 +68,65 @@ command_of_three word first second =
 abbrev pub is_show : List ℕ → Bool
 is_show word = bytes_eq word (codes "--show")
 
+-- The word after which a cache is named.
+abbrev pub is_cache : List ℕ → Bool
+is_cache word = bytes_eq word (codes "--cache")
+
 -- A word that may stand after `check`.
 abbrev pub is_check_word : List ℕ → Bool
-is_check_word word = is_show word || is_name_word word
+is_check_word word = is_show word || (is_cache word || is_name_word word)
+
+-- Where the name of a cache stands among these words: after the first `--cache`.
+abbrev pub cache_place : List (List ℕ) → Option ℕ
+cache_place words = option_map (λ place. place + 1) (position is_cache words)
+
+-- The word at this place, where there is one, is a name that no other of these words is.
+abbrev pub is_own_name : List (List ℕ) → Option ℕ → Bool
+is_own_name words None = true
+is_own_name words (Some place) = is_name_word (word_at words place) && count_by (bytes_eq (word_at words place)) words == 1
 
 -- The most files that a check may have.
 abbrev pub MAX_FILES : ℕ
 MAX_FILES = 64
 
--- How many of these words name files.
+-- How many of these words name files of a check: all but `--show`, `--cache` and the name after that.
 abbrev pub file_count : List (List ℕ) → ℕ
-file_count words = length words - count_by is_show words
+file_count words = length words - (count_by is_show words + 2 * count_by is_cache words)
 
--- The words after `check`, in any order: at most one `--show`, and files, of which there are 1 to 64.
+-- At most one `--show`, at most one `--cache`, and 1 to 64 files.
+abbrev pub are_few : List (List ℕ) → Bool
+are_few words =
+    nat_le (count_by is_show words) 1 && nat_le (count_by is_cache words) 1 && nat_le 1 (file_count words) && nat_le (file_count words) MAX_FILES
+
+-- The words after `check`, in any order: 1 to 64 files, at most one `--show`, and at most one `--cache` with the name of a
+-- cache after it, which none of the files has.
 abbrev pub are_check_words : List (List ℕ) → Bool
-are_check_words words =
-    list_all is_check_word words && nat_le (count_by is_show words) 1 && nat_le 1 (file_count words) && nat_le (file_count words) MAX_FILES
+are_check_words words = list_all is_check_word words && are_few words && is_own_name words (cache_place words)
 
--- How many words a check has, and which of them is `--show`, for the words after `check`.
+-- The index, among all words of a check, of the word at this place after `check`.
+abbrev pub word_index : Option ℕ → Option ℕ
+word_index place = option_map (λ place. place + 1) place
+
+-- How many words a check has, and which of them are `--show` and the name of the cache, for the words after `check`.
 unfoldable pub check_words : List (List ℕ) → Option CheckWords
 check_words words =
-    if are_check_words words then Some (record { count = length words + 1; show = option_map (λ index. index + 1) (position is_show words) }) else None
+    if are_check_words words
+    then Some (record { count = length words + 1; show = word_index (position is_show words); cache = word_index (cache_place words) })
+    else None
 
--- An index is another one than this, if there is one.
-abbrev pub is_other : Option ℕ → ℕ → Bool
-is_other None index = true
-is_other (Some one) index = not (index == one)
+-- The word at an index is `--show`.
+abbrev pub tells_show : Option ℕ → ℕ → Bool
+tells_show None index = false
+tells_show (Some show) index = index == show
 
--- The word at an index names a file of a check, unless it is `check` or `--show`.
+-- The word at an index is the name of the cache, or `--cache` before it.
+abbrev pub tells_cache : Option ℕ → ℕ → Bool
+tells_cache None index = false
+tells_cache (Some name) index = index == name || index == name - 1
+
+-- The word at an index names a file of a check, unless it is `check` or tells something else.
 abbrev pub names_file : CheckWords → ℕ → Bool
-names_file check index = is_other check.show index
+names_file check index = not (tells_show check.show index) && not (tells_cache check.cache index)
 
 -- The indexes of the words that name the files of a check, in order.
 abbrev pub check_files : CheckWords → List ℕ
@@ -221,12 +250,22 @@ checked_indexes (commands.Run run) = []
 checked_indexes (commands.Refute file method runs) = []
 checked_indexes (commands.Gen seed count) = []
 
+-- The index of the word that names the command's cache, if it has one: a file that may be missing.
+abbrev pub cache_index : Command → Option ℕ
+cache_index (commands.Unit file) = None
+cache_index (commands.List file) = None
+cache_index (commands.Il file method) = None
+cache_index (commands.Check check) = check.cache
+cache_index (commands.Run run) = None
+cache_index (commands.Refute file method runs) = None
+cache_index (commands.Gen seed count) = None
+
 -- The indexes of all words that the command uses.
 abbrev pub used_indexes : Command → List ℕ
 used_indexes (commands.Unit file) = file ∷ []
 used_indexes (commands.List file) = file ∷ []
 used_indexes (commands.Il file method) = file ∷ method ∷ []
-used_indexes (commands.Check check) = check_files check
+used_indexes (commands.Check check) = check_files check ++ option_to_list check.cache
 used_indexes (commands.Run run) = run.file ∷ run.method ∷ []
 used_indexes (commands.Refute file method runs) = file ∷ method ∷ []
 used_indexes (commands.Gen seed count) = []
@@ -250,3 +289,11 @@ checked_files words (Some command) = words_at words (checked_indexes command)
 -- The names of the assemblies whose reports are made for these words, in order.
 abbrev pub checked_names : List (List ℕ) → List (List ℕ)
 checked_names words = checked_files words (command_of words)
+
+-- The name of the cache that a command of these words has, if it has one.
+abbrev pub cache_name : List (List ℕ) → Option (List ℕ)
+cache_name words = option_map (word_at words) (option_and_then cache_index (command_of words))
+
+-- The names of the files that are read for these words, in order: those that must be there, and then the cache.
+abbrev pub read_names : List (List ℕ) → List (List ℕ)
+read_names words = file_names words ++ option_to_list (cache_name words)

@@ -1,20 +1,23 @@
 //! The words of a check.
 
-ghost use Rattle.std.specs.Prelude.{◌≡◌, ◌+◌, ◌<◌, ◌≤◌, All, IfOk, IfSome, IsTrue, count_by, is_some, length, nat_le, option_map, position, string_bytes};
+ghost use Rattle.std.specs.Prelude.{◌≡◌, ◌+◌, ◌<◌, ◌≤◌, ◌++◌, All, IfOk, IfSome, IsTrue, Some, count_by, is_some, length, option_to_list, position, string_bytes};
 ghost use Rattle.std.specs.List.{list_all};
-ghost use Rattle.command_words.specs.Words.{are_check_words, check_files, check_words, file_count, is_check_word, is_name_word, is_show, names_file, words_bytes};
+ghost use Rattle.std.specs.Str.{bytes_eq};
+ghost use Rattle.command_words.specs.Words.{are_check_words, are_few, cache_place, check_files, check_words, is_cache, is_check_word, is_name_word, is_own_name, is_show, names_file, tells_cache, tells_show, word_index, words_bytes};
 
 use crate::names::is_name_word;
 use std::alloc::{AllocError, Global};
 
-/// The words of a check: `check`, and then its files and perhaps `--show`, in any order. All words but these two name
-/// files.
+/// The words of a check: `check`, and then its files, perhaps `--show`, and perhaps `--cache` and the name of a cache, in
+/// any order. All other words name files.
 #[derive(Clone, Copy, Debug, PartialEq, Eq)]
 pub struct CheckWords {
-    /// The number of all words, with `check` and `--show`: at most 66.
+    /// The number of all words, with `check` and what is no file: at most 68.
     pub count: u32,
     /// The index of `--show`, where it is among them.
     pub show: Option<u32>,
+    /// The index of the name of the cache, right after `--cache`, where that is among them.
+    pub cache: Option<u32>,
 }
 
 impl CheckWords {
@@ -25,14 +28,31 @@ impl CheckWords {
         self.show.is_some()
     }
 
+    /// Returns whether the word at an index is `--show`.
+    fn tells_show(&self, index: u32) -> bool
+        ensures { result ≡ tells_show self.now.show index }
+    {
+        match self.show {
+            Some(show) => index == show,
+            None => false,
+        }
+    }
+
+    /// Returns whether the word at an index is the name of the cache, or `--cache` before it.
+    fn tells_cache(&self, index: u32) -> bool
+        ensures { result ≡ tells_cache self.now.cache index }
+    {
+        match self.cache {
+            Some(name) => index == name || index == name.saturating_sub(1),
+            None => false,
+        }
+    }
+
     /// Returns whether the word at an index, which is not that of `check`, names a file.
     fn names_file(&self, index: u32) -> bool
         ensures { result ≡ names_file self.now index }
     {
-        match self.show {
-            Some(show) => index != show,
-            None => true,
-        }
+        !self.tells_show(index) && !self.tells_cache(index)
     }
 
     /// The indexes of the words that name files, in their order.
@@ -52,6 +72,13 @@ fn is_show(word: &String) -> bool
     word.as_str() == "--show"
 }
 
+/// Returns whether a cache is named after this word.
+fn is_cache(word: &String) -> bool
+    ensures { result ≡ is_cache (string_bytes word.now) }
+{
+    word.as_str() == "--cache"
+}
+
 /// Returns whether a word may name a file.
 fn is_file(word: &String) -> bool
     ensures { result ≡ is_name_word (string_bytes word.now) }
@@ -63,7 +90,7 @@ fn is_file(word: &String) -> bool
 fn is_check_word(word: &String) -> bool
     ensures { result ≡ is_check_word (string_bytes word.now) }
 {
-    is_show(word) || is_file(word)
+    is_show(word) || is_cache(word) || is_file(word)
 }
 
 /// Returns whether each word may stand after `check`.
@@ -81,38 +108,27 @@ fn may_follow(words: &[String]) -> bool
 }
 
 /// How many words ask for invariants.
+#[tactic(auto, using(crate::proofs::WordBytes::told))]
 fn count_shows(words: &[String]) -> usize
-    ensures value { result ≡ count_by (λ word. is_show (string_bytes word)) words.now }
-    ensures bound { result ≤ length words.now }
+    ensures { result ≡ count_by is_show (words_bytes words.now) }
 {
     words.iter().filter(|word| is_show(word)).count()
 }
 
-/// Returns whether no more than one word asks for invariants.
-fn asks_once(words: &[String]) -> bool
-    ensures { result ≡ nat_le (count_by is_show (words_bytes words.now)) 1 }
+/// After how many words a cache is named.
+#[tactic(auto, using(crate::proofs::WordBytes::told))]
+fn count_caches(words: &[String]) -> usize
+    ensures { result ≡ count_by is_cache (words_bytes words.now) }
 {
-    count_shows(words) <= 1
+    words.iter().filter(|word| is_cache(word)).count()
 }
 
-/// How many of these words name files: all but those that ask for invariants.
-fn file_count(words: &[String]) -> usize
-    ensures value { result ≡ file_count (words_bytes words.now) }
-    ensures others { length words.now ≡ result + count_by is_show (words_bytes words.now) }
+/// How many of these words are this one.
+#[tactic(auto, using(crate::proofs::WordBytes::told))]
+fn count_same(words: &[String], name: &str) -> usize
+    ensures { result ≡ count_by (bytes_eq name.now) (words_bytes words.now) }
 {
-    words.len() - count_shows(words)
-}
-
-/// The most files that a check may have.
-const MAX_FILES: usize = 64;
-
-/// Returns whether these words may stand after `check`: at most one `--show`, and 1 to 64 files.
-fn are_check_words(words: &[String]) -> bool
-    ensures value { result ≡ are_check_words (words_bytes words.now) }
-    ensures few { IsTrue result → length words.now ≤ 65 }
-{
-    let files = file_count(words);
-    may_follow(words) && asks_once(words) && 1 <= files && files <= MAX_FILES
+    words.iter().filter(|word| name == word.as_str()).count()
 }
 
 /// The place of the first word that asks for invariants.
@@ -123,19 +139,95 @@ fn first_show(words: &[String]) -> Option<usize>
     words.iter().position(is_show)
 }
 
-/// The index of the word that asks for invariants, where these stand after `check`.
-fn show_index(words: &[String]) -> Option<u32>
-    requires { length words.now ≤ 65 }
-    ensures { result ≡ option_map (λ index. index + 1) (position is_show (words_bytes words.now)) }
+/// The same, told of the bytes of the words.
+fn show_place(words: &[String]) -> Option<usize>
+    ensures value { result ≡ position is_show (words_bytes words.now) }
+    ensures bound { IfSome result (λ place. place ≤ length words.now) }
 {
-    let place = first_show(words)?;
-    Some(place as u32 + 1)
+    first_show(words)
 }
 
-/// The words of a check, where these stand after `check`: at most one `--show`, and 1 to 64 files.
+/// The place of the first word after which a cache is named.
+fn first_cache(words: &[String]) -> Option<usize>
+    ensures value { result ≡ position (λ word. is_cache (string_bytes word)) words.now }
+    ensures bound { IfSome result (λ place. place < length words.now) }
+{
+    words.iter().position(is_cache)
+}
+
+/// The place of the word after that one, where the name of the cache stands.
+fn cache_place(words: &[String]) -> Option<usize>
+    ensures value { result ≡ cache_place (words_bytes words.now) }
+    ensures bound { IfSome result (λ place. place ≤ length words.now) }
+{
+    let place = first_cache(words)?;
+    Some(place + 1)
+}
+
+/// Returns whether the word at this place is a name that no other of these words is.
+fn is_own_name(words: &[String], place: usize) -> bool
+    ensures value { result ≡ is_own_name (words_bytes words.now) (Some place) }
+    ensures there { IsTrue result → place < length words.now }
+{
+    match words.get(place) {
+        Some(name) => is_file(name) && count_same(words, name.as_str()) == 1,
+        None => false,
+    }
+}
+
+/// Returns whether the cache that is named, if one is, has a name that no other of these words is.
+fn names_own_cache(words: &[String]) -> bool
+    ensures value { result ≡ is_own_name (words_bytes words.now) (cache_place (words_bytes words.now)) }
+    ensures there { IsTrue result → IfSome (cache_place (words_bytes words.now)) (λ place. place < length words.now) }
+{
+    match cache_place(words) {
+        Some(place) => is_own_name(words, place),
+        None => true,
+    }
+}
+
+/// The most files that a check may have.
+const MAX_FILES: usize = 64;
+
+/// Returns whether at most one word asks for invariants, a cache is named at most once, and 1 to 64 words name files.
+fn are_few(words: &[String]) -> bool
+    ensures value { result ≡ are_few (words_bytes words.now) }
+    ensures few { IsTrue result → length words.now ≤ 67 }
+{
+    let shows = count_shows(words);
+    let caches = count_caches(words);
+    if shows > 1 || caches > 1 {
+        return false;
+    }
+    let files = words.len().saturating_sub(shows + 2 * caches);
+    1 <= files && files <= MAX_FILES
+}
+
+/// Returns whether these words may stand after `check`.
+fn are_check_words(words: &[String]) -> bool
+    ensures value { result ≡ are_check_words (words_bytes words.now) }
+    ensures few { IsTrue result → length words.now ≤ 67 }
+    ensures there { IsTrue result → IfSome (cache_place (words_bytes words.now)) (λ place. place < length words.now) }
+{
+    may_follow(words) && are_few(words) && names_own_cache(words)
+}
+
+/// The index, among all words, of the word at a place after `check`.
+fn word_index(place: Option<usize>) -> Option<u32>
+    requires { IfSome place (λ place. place ≤ 67) }
+    ensures { result ≡ word_index place }
+{
+    match place {
+        Some(place) => Some(place as u32 + 1),
+        None => None,
+    }
+}
+
+/// The words of a check, where these stand after `check`: 1 to 64 files, perhaps `--show`, and perhaps `--cache` and a name
+/// that none of the files has.
 #[tactic(auto, unfolding(crate::specs::Words::check_words))]
 pub fn read_check(words: &[String]) -> Option<CheckWords>
-    ensures inside { IfSome result (λ check. All (λ index. index < length words.now + 1) (check_files check)) }
+    ensures inside { IfSome result (λ check. All (λ index. index < length words.now + 1) (check_files check ++ option_to_list check.cache)) }
     ensures value { result ≡ check_words (words_bytes words.now) }
 {
     if !are_check_words(words) {
@@ -143,6 +235,7 @@ pub fn read_check(words: &[String]) -> Option<CheckWords>
     }
     Some(CheckWords {
         count: words.len() as u32 + 1,
-        show: show_index(words),
+        show: word_index(show_place(words)),
+        cache: word_index(cache_place(words)),
     })
 }

@@ -2,7 +2,7 @@
 
 ghost use Rattle.std.specs.Prelude.{◌≡◌, [], ◌∷◌, ◌+◌, ◌<◌, ◌≤◌, ◌^◌, All, IfOk, IfSome, IsTrue, length, option_map, string_bytes};
 ghost use Rattle.std.specs.List.{list_all};
-ghost use Rattle.command_words.specs.Words.{HasArguments, IfGen, IfRun, args_end, at_least_one, check_words, command_of, command_of_three, command_of_two, file_indexes, gen_command, il_command, is_name_word, names_run, other_command, refute_command, run_args, run_command, run_steps, runs_told, tells_steps, used_indexes, word_at, words_bytes};
+ghost use Rattle.command_words.specs.Words.{HasArguments, IfGen, IfRun, args_end, at_least_one, cache_index, check_words, command_of, command_of_three, command_of_two, file_indexes, gen_command, il_command, is_name_word, names_run, other_command, refute_command, run_args, run_command, run_steps, runs_told, tells_steps, used_indexes, word_at, words_bytes};
 ghost use Rattle.command_words.specs.declared.command.Command.TheVariants as commands;
 ghost use Rattle.run_arguments.specs.Arguments as arguments;
 ghost use Rattle.run_arguments.specs.Numbers.{number_of_word};
@@ -22,7 +22,8 @@ pub enum Command {
     List(u32),
     /// The instructions of a method: the file of its assembly, then the method.
     Il(u32, u32),
-    /// The reports of the assemblies in files, with the invariants of their methods or without.
+    /// The reports of the assemblies in files, with the invariants of their methods or without, and with a cache or
+    /// without.
     Check(CheckWords),
     /// A run of a method.
     Run(RunWords),
@@ -74,6 +75,16 @@ impl Command {
             | Command::Refute { file, .. } => only(alloc, *file),
             Command::Check(words) => words.files(alloc),
             Command::Gen(_, _) => Ok(Vec::new(alloc)),
+        }
+    }
+
+    /// The index of the word that names its cache, if it has one. That file may be missing.
+    pub fn cache(&self) -> Option<u32>
+        ensures { result ≡ cache_index self.now }
+    {
+        match self {
+            Command::Check(words) => words.cache,
+            _ => None,
         }
     }
 }

@@ -1,7 +1,12 @@
-use Rattle.std.proofs.Common.{◌+◌, length, refl, arith}
-use Rattle.command_words.proofs.CheckWordLemmas.{files_inside}
+use Rattle.std.proofs.Common.{◌+◌, length, refl, ap, ◌∙◌, arith}
+use Rattle.command_words.specs.Words.{cache_place, word_index, words_bytes}
+use Rattle.command_words.proofs.CheckWordLemmas.{used_inside, word_inside}
 use Rattle.command_words.proofs.check_words.read_check.Goals as goal
 
 pub returns-clause-inside : goal.returns-clause-inside
 returns-clause-inside c =
-    files_inside (record { count = length c.args.words.now + 1; show = c.show_index.result }) (length c.args.words.now + 1) refl (omega arith)
+    let words = c.args.words.now in
+    let limit = length words + 1 in
+    let cache = c.word_index-2.ensures ∙ ap word_index c.cache_place.ensures.value in
+    let inside = word_inside (cache_place (words_bytes words)) (length words) (c.if-not-are_check_words.ensures.there refl) in
+    used_inside (record { count = limit; show = c.word_index.result; cache = c.word_index-2.result }) limit refl (omega arith) (rw cache inside)

@@ -1,7 +1,7 @@
 use Rattle.std.proofs.Common.{ap, ◌∙◌}
 use Rattle.std.specs.List.{list_all}
 use Rattle.run_arguments.specs.Arguments.{is_argument}
-use Rattle.command_words.proofs.RunWordLemmas.{all_words}
+use Rattle.command_words.proofs.WordBytes.{all_words}
 use Rattle.command_words.proofs.command.has_arguments.Goals as goal
 
 pub returns : goal.returns
