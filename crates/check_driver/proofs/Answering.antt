@@ -1,22 +1,32 @@
 -- Answers, by what is met under the names of files and by the words.
-use Rattle.std.proofs.Common.{◌≡◌, ℕ, ◌≤◌, List, [], ◌∷◌, length, take, Vec, Global, Option, Some, None, Result, Contains, refl, sym, ap, ◌∙◌, arith, inl, inr, length-take, slice_index_or, Bool, is_some, unwrap_or}
-use Rattle.std.specs.Prelude.{codes}
-use Rattle.std.proofs.lemmas.Bool.{cases_lt, le-leb}
-use Rattle.std.proofs.lemmas.List.{take_all, get_or-map, length-map}
+use Rattle.std.proofs.Common.{◌≡◌, ℕ, zero, suc, ◌≤◌, ◌&&◌, List, [], ◌∷◌, ◌++◌, length, take, Any, Vec, Global, Option, Some, None, Result, refl, sym, ap, subst, ◌∙◌, arith, inl, inr, length-take, slice_index_or, Bool, is_none, is_some, option_map, unwrap_or}
+use Rattle.std.specs.Prelude.{codes, option_to_list}
+use Rattle.std.proofs.lemmas.Bool.{le-leb}
+use Rattle.std.proofs.lemmas.List.{get_or-map, length-map}
 use Rattle.asm_image.specs.Faults.{FirstBroken}
 use Rattle.cc_base.specs.Files.{READ_LIMIT}
 use Rattle.cil_model.specs.Limits.{MAX_FILE_BYTES}
 use Rattle.answer_lines.specs.Answers.{Answer, USAGE, error_answer, refused_answer, missing_line}
-use Rattle.check_driver.specs.Asked.{asked_by, asked_unless, bytes_asked, check_keys, distinct, files_asked, keys_before, unit_file_asked}
-use Rattle.check_driver.specs.Expected.{missing_or, expected, unit_file_answer, check_answer, checked_before, bytes_answer, files_answer, file_at}
-use Rattle.check_driver.specs.Met.{AreContents, IsContent, first_missing, contents, bytes_read}
-use Rattle.answer_lines.specs.Outcome.{Gives, GivesOrUnread, unread_answer}
-use Rattle.command_words.specs.Words.{args_told, check_files, command_of, file_names, file_indexes, word_at, words_at}
+use Rattle.answer_lines.specs.Outcome.{Gives, GivesOrFails, after_line, unread_answer}
 use Rattle.answer_lines.specs.Writing.{Change}
-use Rattle.command_words.specs.declared.command.Command.{Command}
-use Rattle.command_words.specs.declared.command.Command.TheVariants as commands
 use Rattle.answer_lines.specs.declared.interrupt.Interrupt.{Interrupt}
 use Rattle.assembly_answers.proofs.CutFiles.{il_cut, il_file_answer, large_first, list_cut, list_file_answer, refute_bytes_answer, refute_cut, run_bytes_answer, run_cut}
+use Rattle.command_words.specs.Words.{args_told, cache_name, check_files, command_of, file_names, file_indexes, word_at, words_at}
+use Rattle.command_words.specs.declared.check_words.CheckWords.{CheckWords}
+use Rattle.command_words.specs.declared.command.Command.{Command}
+use Rattle.command_words.specs.declared.command.Command.TheVariants as commands
+use Rattle.result_cache.specs.Entries.{Entry}
+use Rattle.unit_verdicts.specs.Asked.{distinct, without_entry}
+use Rattle.unit_verdicts.specs.Picks.{Manner}
+use Rattle.unit_verdicts.specs.VerdictCache.{manner_under}
+use Rattle.check_driver.specs.Asked.{asked_by, asked_unless, bytes_asked, check_asked, check_keys, files_asked, keys_before, unit_file_asked}
+use Rattle.check_driver.specs.CacheLeft.{GivesOrUnreplaced, are_accepted, bytes_left, check_left, files_left, left_by, left_unless, left_where}
+use Rattle.check_driver.specs.CacheMet.{CallMet, cache_entries, cache_refusal, command_cache}
+use Rattle.check_driver.specs.CallRead.{IsReadIndex, cache_bytes}
+use Rattle.check_driver.specs.Expected.{missing_or, expected, unit_file_answer, check_answer, check_manner, checked_before, bytes_answer, files_answer, file_at}
+use Rattle.check_driver.specs.Met.{AreContents, IsCacheContent, first_missing, contents, bytes_read}
+use Rattle.check_driver.proofs.CacheCuts.{entries_alike, refusal_alike}
+use Rattle.check_driver.proofs.Contents.{file_alike, first_alike}
 use Rattle.check_driver.proofs.FilesRead.{none_missing}
 
 -- ---- bytes that a read cut off
@@ -31,69 +41,53 @@ unit_cut name bytes limit is past =
     too_large name bytes past ∙ sym (too_large name (take limit bytes) (omega (arith, length-take limit bytes)))
 
 -- So has an assembly, and what comes after it.
-checked_cut : (name : List ℕ) (show : Bool) (others : Answer) (bytes : List ℕ) (limit : ℕ) → limit ≡ READ_LIMIT → READ_LIMIT ≤ length bytes
-    → checked_before name show bytes (FirstBroken bytes) others ≡ checked_before name show (take limit bytes) (FirstBroken (take limit bytes)) others
-checked_cut name show others bytes limit is past =
+checked_cut : (name : List ℕ) (manner : Manner) (others : Answer) (bytes : List ℕ) (limit : ℕ) → limit ≡ READ_LIMIT → READ_LIMIT ≤ length bytes
+    → checked_before name manner bytes (FirstBroken bytes) others ≡ checked_before name manner (take limit bytes) (FirstBroken (take limit bytes)) others
+checked_cut name manner others bytes limit is past =
     let whole = large_first bytes past in
     let cut = large_first (take limit bytes) (omega (arith, length-take limit bytes)) in
     rw (whole, cut) refl
 
--- So has every answer that has it past the limit.
-cut_alike : {R : Type 0} (answer : List ℕ → R) (bytes : List ℕ) (limit : ℕ) → limit ≡ READ_LIMIT → (READ_LIMIT ≤ length bytes → answer bytes ≡ answer (take limit bytes))
-    → answer bytes ≡ answer (take limit bytes)
-cut_alike answer bytes limit is past =
-    elim (cases_lt (length bytes) limit) [
-      | inl lt ↦ ap answer (sym (take_all limit bytes (omega arith)))
-      | inr ge ↦ past (omega arith)
-    ]
-
-some_is : {X : Type 0} (x y : X) → Some x ≡ Some y → x ≡ y
-some_is x y e = cc
-
--- What was read of a file has the answer of what is met.
-file_alike : {R : Type 0} (answer : List ℕ → R) (under : Option (List ℕ)) (bytes : List ℕ)
-    → ((bytes : List ℕ) → READ_LIMIT ≤ length bytes → answer bytes ≡ answer (take READ_LIMIT bytes)) → IsContent under bytes → answer (unwrap_or under []) ≡ answer bytes
-file_alike answer (Some whole) bytes past (inl is) = ap answer (some_is whole bytes is)
-file_alike answer (Some whole) bytes past (inr is) =
-    cut_alike answer whole READ_LIMIT refl (past whole) ∙ ap answer (some_is (take READ_LIMIT whole) bytes is)
-file_alike answer None bytes past (inl is) = absurd cc
-file_alike answer None bytes past (inr is) = absurd cc
-
-first_alike : {R : Type 0} (answer : List ℕ → R) (met : List (Option (List ℕ))) (read : List (Vec ℕ Global))
-    → ((bytes : List ℕ) → READ_LIMIT ≤ length bytes → answer bytes ≡ answer (take READ_LIMIT bytes)) → AreContents met read
-    → answer (file_at (contents met) 0) ≡ answer (file_at (bytes_read read) 0)
-first_alike answer [] [] past h = refl
-first_alike answer (under ∷ met) (bytes ∷ read) past h = file_alike answer under bytes.items past h.0
-first_alike answer [] (bytes ∷ read) past h = absurd h
-first_alike answer (under ∷ met) [] past h = absurd h
-
 -- So has each of several files.
-check_alike : (show : Bool) (names : List (List ℕ)) (met : List (Option (List ℕ))) (read : List (Vec ℕ Global)) → AreContents met read
-    → check_answer show names (contents met) ≡ check_answer show names (bytes_read read)
-check_alike show [] met read h = refl
-check_alike show (name ∷ names) [] [] h = refl
-check_alike show (name ∷ names) (under ∷ met) (bytes ∷ read) h =
+check_alike : (manner : Manner) (names : List (List ℕ)) (met : List (Option (List ℕ))) (read : List (Vec ℕ Global)) → AreContents met read
+    → check_answer manner names (contents met) ≡ check_answer manner names (bytes_read read)
+check_alike manner [] met read h = refl
+check_alike manner (name ∷ names) [] [] h = refl
+check_alike manner (name ∷ names) (under ∷ met) (bytes ∷ read) h =
     let whole = unwrap_or under [] in
-    ap (checked_before name show whole (FirstBroken whole)) (check_alike show names met read h.1)
-    ∙ file_alike (λ b. checked_before name show b (FirstBroken b) (check_answer show names (bytes_read read))) under bytes.items
-    (λ b past. checked_cut name show (check_answer show names (bytes_read read)) b READ_LIMIT refl past) h.0
-check_alike show (name ∷ names) [] (bytes ∷ read) h = absurd h
-check_alike show (name ∷ names) (under ∷ met) [] h = absurd h
+    ap (checked_before name manner whole (FirstBroken whole)) (check_alike manner names met read h.1)
+    ∙ file_alike (λ b. checked_before name manner b (FirstBroken b) (check_answer manner names (bytes_read read))) under bytes.items
+    (λ b past. checked_cut name manner (check_answer manner names (bytes_read read)) b READ_LIMIT refl past) h.0
+check_alike manner (name ∷ names) [] (bytes ∷ read) h = absurd h
+check_alike manner (name ∷ names) (under ∷ met) [] h = absurd h
 
-bytes_alike : (command : Command) (words : List (List ℕ)) (met : List (Option (List ℕ))) (read : List (Vec ℕ Global)) → AreContents met read
-    → bytes_answer command words (contents met) ≡ bytes_answer command words (bytes_read read)
-bytes_alike (commands.Unit file) words met read h = first_alike (unit_file_answer (word_at words file)) met read (λ bytes past. unit_cut (word_at words file) bytes READ_LIMIT refl past) h
-bytes_alike (commands.List file) words met read h = first_alike (list_file_answer (word_at words file)) met read (λ bytes past. list_cut (word_at words file) bytes READ_LIMIT refl past) h
-bytes_alike (commands.Il file method) words met read h =
-    first_alike (il_file_answer (word_at words file) (word_at words method)) met read
+check_met_alike : (check : CheckWords) (words : List (List ℕ)) (met : CallMet) (read : List (Vec ℕ Global)) (cache : Option (Vec ℕ Global)) → AreContents met.files read
+    → IsCacheContent met.cache cache
+    → bytes_answer (commands.Check check) words met.cache (contents met.files) ≡ bytes_answer (commands.Check check) words (cache_bytes cache) (bytes_read read)
+check_met_alike check words met read cache h is =
+    let name = command_cache words (commands.Check check) in
+    let names = words_at words (check_files check) in
+    let show = is_some check.show in
+    ap (λ (line : List ℕ). after_line line (check_answer (check_manner check met.cache) names (contents met.files))) (refusal_alike name met.cache cache is)
+    ∙ ap (λ (entries : List Entry). after_line (cache_refusal name (cache_bytes cache)) (check_answer (manner_under show entries) names (contents met.files))) (entries_alike met.cache cache is)
+    ∙ ap (after_line (cache_refusal name (cache_bytes cache))) (check_alike (check_manner check (cache_bytes cache)) names met.files read h)
+
+bytes_alike : (command : Command) (words : List (List ℕ)) (met : CallMet) (read : List (Vec ℕ Global)) (cache : Option (Vec ℕ Global)) → AreContents met.files read
+    → IsCacheContent met.cache cache → bytes_answer command words met.cache (contents met.files) ≡ bytes_answer command words (cache_bytes cache) (bytes_read read)
+bytes_alike (commands.Unit file) words met read cache h is =
+    first_alike (unit_file_answer (word_at words file)) met.files read (λ bytes past. unit_cut (word_at words file) bytes READ_LIMIT refl past) h
+bytes_alike (commands.List file) words met read cache h is =
+    first_alike (list_file_answer (word_at words file)) met.files read (λ bytes past. list_cut (word_at words file) bytes READ_LIMIT refl past) h
+bytes_alike (commands.Il file method) words met read cache h is =
+    first_alike (il_file_answer (word_at words file) (word_at words method)) met.files read
     (λ bytes past. il_cut (word_at words file) (word_at words method) bytes READ_LIMIT refl past) h
-bytes_alike (commands.Check check) words met read h = check_alike (is_some check.show) (words_at words (check_files check)) met read h
-bytes_alike (commands.Refute file method runs) words met read h =
-    first_alike (refute_bytes_answer (word_at words file) (word_at words method) runs) met read
+bytes_alike (commands.Check check) words met read cache h is = check_met_alike check words met read cache h is
+bytes_alike (commands.Refute file method runs) words met read cache h is =
+    first_alike (refute_bytes_answer (word_at words file) (word_at words method) runs) met.files read
     (λ bytes past. refute_cut (word_at words file) (word_at words method) runs bytes READ_LIMIT refl past) h
-bytes_alike (commands.Gen seed count) words met read h = refl
-bytes_alike (commands.Run run) words met read h =
-    first_alike (run_bytes_answer (word_at words run.file) (word_at words run.method) (args_told run words) run.steps) met read
+bytes_alike (commands.Gen seed count) words met read cache h is = refl
+bytes_alike (commands.Run run) words met read cache h is =
+    first_alike (run_bytes_answer (word_at words run.file) (word_at words run.method) (args_told run words) run.steps) met.files read
     (λ bytes past. run_cut (word_at words run.file) (word_at words run.method) (args_told run words) run.steps bytes READ_LIMIT refl past) h
 
 -- Of a file past the limit nothing is asked.
@@ -110,6 +104,12 @@ keys_cut others bytes limit is past =
     let cut = large_first (take limit bytes) (omega (arith, length-take limit bytes)) in
     rw (whole, cut) refl
 
+accepted_cut : (bytes : List ℕ) (limit : ℕ) → limit ≡ READ_LIMIT → READ_LIMIT ≤ length bytes → is_none (FirstBroken bytes) ≡ is_none (FirstBroken (take limit bytes))
+accepted_cut bytes limit is past =
+    let whole = large_first bytes past in
+    let cut = large_first (take limit bytes) (omega (arith, length-take limit bytes)) in
+    rw (whole, cut) refl
+
 keys_alike : (met : List (Option (List ℕ))) (read : List (Vec ℕ Global)) → AreContents met read → check_keys (contents met) ≡ check_keys (bytes_read read)
 keys_alike [] [] h = refl
 keys_alike (under ∷ met) (bytes ∷ read) h =
@@ -120,15 +120,40 @@ keys_alike (under ∷ met) (bytes ∷ read) h =
 keys_alike [] (bytes ∷ read) h = absurd h
 keys_alike (under ∷ met) [] h = absurd h
 
-asked_alike : (command : Command) (met : List (Option (List ℕ))) (read : List (Vec ℕ Global)) → AreContents met read
-    → bytes_asked command (contents met) ≡ bytes_asked command (bytes_read read)
-asked_alike (commands.Unit file) met read h = first_alike unit_file_asked met read (λ bytes past. unit_asked_cut bytes READ_LIMIT refl past) h
-asked_alike (commands.Check check) met read h = ap distinct (keys_alike met read h)
-asked_alike (commands.List file) met read h = refl
-asked_alike (commands.Il file method) met read h = refl
-asked_alike (commands.Run run) met read h = refl
-asked_alike (commands.Refute file method runs) met read h = refl
-asked_alike (commands.Gen seed count) met read h = refl
+asked_alike : (command : Command) (met : CallMet) (read : List (Vec ℕ Global)) (cache : Option (Vec ℕ Global)) → AreContents met.files read → IsCacheContent met.cache cache
+    → bytes_asked command met.cache (contents met.files) ≡ bytes_asked command (cache_bytes cache) (bytes_read read)
+asked_alike (commands.Unit file) met read cache h is = first_alike unit_file_asked met.files read (λ bytes past. unit_asked_cut bytes READ_LIMIT refl past) h
+asked_alike (commands.Check check) met read cache h is =
+    ap (λ (entries : List Entry). check_asked entries (contents met.files)) (entries_alike met.cache cache is)
+    ∙ ap (λ (keys : List (List ℕ)). without_entry (cache_entries (cache_bytes cache)) (distinct keys)) (keys_alike met.files read h)
+asked_alike (commands.List file) met read cache h is = refl
+asked_alike (commands.Il file method) met read cache h is = refl
+asked_alike (commands.Run run) met read cache h is = refl
+asked_alike (commands.Refute file method runs) met read cache h is = refl
+asked_alike (commands.Gen seed count) met read cache h is = refl
+
+-- A file past the limit is refused, cut off or not.
+accepted_alike : (met : List (Option (List ℕ))) (read : List (Vec ℕ Global)) → AreContents met read → are_accepted (contents met) ≡ are_accepted (bytes_read read)
+accepted_alike [] [] h = refl
+accepted_alike (under ∷ met) (bytes ∷ read) h =
+    ap (λ (others : Bool). is_none (FirstBroken (unwrap_or under [])) && others) (accepted_alike met read h.1)
+    ∙ ap (λ (one : Bool). one && are_accepted (bytes_read read)) (file_alike (λ (b : List ℕ). is_none (FirstBroken b)) under bytes.items (λ b past. accepted_cut b READ_LIMIT refl past) h.0)
+accepted_alike [] (bytes ∷ read) h = absurd h
+accepted_alike (under ∷ met) [] h = absurd h
+
+left_alike : (command : Command) (words : List (List ℕ)) (met : CallMet) (read : List (Vec ℕ Global)) (cache : Option (Vec ℕ Global)) → AreContents met.files read
+    → IsCacheContent met.cache cache → bytes_left command words met.cache (contents met.files) ≡ bytes_left command words (cache_bytes cache) (bytes_read read)
+left_alike (commands.Check check) words met read cache h is =
+    let name = command_cache words (commands.Check check) in
+    ap (λ (entries : List Entry). check_left name entries (contents met.files)) (entries_alike met.cache cache is)
+    ∙ ap (λ (accepted : Bool). left_where accepted name (cache_entries (cache_bytes cache)) (distinct (check_keys (contents met.files)))) (accepted_alike met.files read h)
+    ∙ ap (λ (keys : List (List ℕ)). left_where (are_accepted (bytes_read read)) name (cache_entries (cache_bytes cache)) (distinct keys)) (keys_alike met.files read h)
+left_alike (commands.Unit file) words met read cache h is = refl
+left_alike (commands.List file) words met read cache h is = refl
+left_alike (commands.Il file method) words met read cache h is = refl
+left_alike (commands.Run run) words met read cache h is = refl
+left_alike (commands.Refute file method runs) words met read cache h is = refl
+left_alike (commands.Gen seed count) words met read cache h is = refl
 
 -- The bytes of the only file.
 pub only_file : (read : List (Vec ℕ Global)) (other : Vec ℕ Global) → length read ≡ 1 → (slice_index_or read 0 other).items ≡ file_at (bytes_read read) 0
@@ -138,47 +163,98 @@ only_file (file ∷ read) other one = refl
 -- ---- answers to a command
 
 -- Files that were read have the answer for what was read.
-pub read_answer : (command : Command) (words : List (List ℕ)) (met : List (Option (List ℕ))) (read : List (Vec ℕ Global)) → AreContents met read
-    → files_answer command words met ≡ bytes_answer command words (bytes_read read)
-read_answer command words met read h =
-    let none = none_missing (words_at words (file_indexes command)) met read h in
-    ap (λ (missing : Option (List ℕ)). missing_or missing (bytes_answer command words (contents met))) none ∙ bytes_alike command words met read h
+pub read_answer : (command : Command) (words : List (List ℕ)) (met : CallMet) (read : List (Vec ℕ Global)) (cache : Option (Vec ℕ Global)) → AreContents met.files read
+    → IsCacheContent met.cache cache → files_answer command words met ≡ bytes_answer command words (cache_bytes cache) (bytes_read read)
+read_answer command words met read cache h is =
+    let none = none_missing (words_at words (file_indexes command)) met.files read h in
+    ap (λ (missing : Option (List ℕ)). missing_or missing (bytes_answer command words met.cache (contents met.files))) none ∙ bytes_alike command words met read cache h is
 
-pub read_asked : (command : Command) (words : List (List ℕ)) (met : List (Option (List ℕ))) (read : List (Vec ℕ Global)) → AreContents met read
-    → files_asked command words met ≡ bytes_asked command (bytes_read read)
-read_asked command words met read h =
-    let none = none_missing (words_at words (file_indexes command)) met read h in
-    ap (λ (missing : Option (List ℕ)). asked_unless missing (bytes_asked command (contents met))) none ∙ asked_alike command met read h
+pub read_asked : (command : Command) (words : List (List ℕ)) (met : CallMet) (read : List (Vec ℕ Global)) (cache : Option (Vec ℕ Global)) → AreContents met.files read
+    → IsCacheContent met.cache cache → files_asked command words met ≡ bytes_asked command (cache_bytes cache) (bytes_read read)
+read_asked command words met read cache h is =
+    let none = none_missing (words_at words (file_indexes command)) met.files read h in
+    ap (λ (missing : Option (List ℕ)). asked_unless missing (bytes_asked command met.cache (contents met.files))) none ∙ asked_alike command met read cache h is
 
--- Where a file is missing, nothing is asked.
-pub missing_asked : (command : Command) (words : List (List ℕ)) (met : List (Option (List ℕ))) (name : List ℕ)
-    → first_missing (words_at words (file_indexes command)) met ≡ Some name → files_asked command words met ≡ []
+pub read_left : (command : Command) (words : List (List ℕ)) (met : CallMet) (read : List (Vec ℕ Global)) (cache : Option (Vec ℕ Global)) → AreContents met.files read
+    → IsCacheContent met.cache cache → files_left command words met ≡ bytes_left command words (cache_bytes cache) (bytes_read read)
+read_left command words met read cache h is =
+    let none = none_missing (words_at words (file_indexes command)) met.files read h in
+    ap (λ (missing : Option (List ℕ)). left_unless missing (bytes_left command words met.cache (contents met.files))) none ∙ left_alike command words met read cache h is
+
+-- Where a file is missing, nothing is asked, and nothing left.
+pub missing_asked : (command : Command) (words : List (List ℕ)) (met : CallMet) (name : List ℕ)
+    → first_missing (words_at words (file_indexes command)) met.files ≡ Some name → files_asked command words met ≡ []
 missing_asked command words met name first =
-    ap (λ (missing : Option (List ℕ)). asked_unless missing (bytes_asked command (contents met))) first
+    ap (λ (missing : Option (List ℕ)). asked_unless missing (bytes_asked command met.cache (contents met.files))) first
+
+pub missing_left : (command : Command) (words : List (List ℕ)) (met : CallMet) (name : List ℕ)
+    → first_missing (words_at words (file_indexes command)) met.files ≡ Some name → files_left command words met ≡ None
+missing_left command words met name first =
+    ap (λ (missing : Option (List ℕ)). left_unless missing (bytes_left command words met.cache (contents met.files))) first
 
 -- A file that is missing has its answer.
-pub missing_answer : (command : Command) (words : List (List ℕ)) (met : List (Option (List ℕ))) (name : List ℕ)
-    → first_missing (words_at words (file_indexes command)) met ≡ Some name → files_answer command words met ≡ error_answer 3 (missing_line name)
+pub missing_answer : (command : Command) (words : List (List ℕ)) (met : CallMet) (name : List ℕ)
+    → first_missing (words_at words (file_indexes command)) met.files ≡ Some name → files_answer command words met ≡ error_answer 3 (missing_line name)
 missing_answer command words met name first =
-    ap (λ (missing : Option (List ℕ)). missing_or missing (bytes_answer command words (contents met))) first
+    ap (λ (missing : Option (List ℕ)). missing_or missing (bytes_answer command words met.cache (contents met.files))) first
+
+-- ---- a file that was not read
+
+any_before : {X : Type 0} (P : X → Type 0) (xs ys : List X) → Any P xs → Any P (xs ++ ys)
+any_before P [] ys (k, x, lt, at, holds) = absurd (omega (arith, lt))
+any_before P (first ∷ xs) ys (zero, x, lt, at, holds) = (zero, x, omega arith, at, holds)
+any_before P (first ∷ xs) ys (suc k, x, lt, at, holds) =
+    let (n, y, below, is, its) = any_before P xs ys (k, x, omega (arith, lt), at, holds) in
+    (suc n, y, omega (arith, below), is, its)
+
+any_last : {X : Type 0} (P : X → Type 0) (xs : List X) (x : X) → P x → Any P (xs ++ x ∷ [])
+any_last P [] x holds = (zero, x, omega arith, refl, holds)
+any_last P (first ∷ xs) x holds =
+    let (n, y, below, is, its) = any_last P xs x holds in
+    (suc n, y, omega (arith, below), is, its)
+
+-- The names of a command's files, and then that of its cache.
+abbrev read_by : List (List ℕ) → Command → List (List ℕ)
+read_by words command = words_at words (file_indexes command) ++ option_to_list (command_cache words command)
+
+named : (P : List ℕ → Type 0) (words : List (List ℕ)) (command : Command) (index : ℕ) → IsReadIndex command index → P (word_at words index) → Any P (read_by words command)
+named P words command index (inl (k, lt, at)) holds =
+    let indexes = file_indexes command in
+    any_before P (words_at words indexes) (option_to_list (command_cache words command))
+    (k, word_at words index, simp length-map lt, get_or-map (word_at words) indexes k index (word_at words index) lt ∙ ap (word_at words) at, holds)
+named P words command index (inr is) holds =
+    subst (λ (cache : Option ℕ). Any P (words_at words (file_indexes command) ++ option_to_list (option_map (word_at words) cache))) (sym is)
+    (any_last P (words_at words (file_indexes command)) (word_at words index) holds)
 
 -- The answer of one of the files, which was not read.
-pub gives_unread : (expected : Answer) (words : List (List ℕ)) (indexes : List ℕ) (index : ℕ) (failed : Type 0) (r : Result ℕ Interrupt) (out err : Change)
-    → failed → Contains indexes index → Gives (unread_answer (word_at words index)) r out err → GivesOrUnread expected (words_at words indexes) failed r out err
-gives_unread expected words indexes index failed r out err f (k, lt, at) gives =
-    let there = ap (word_at words) at in
-    inr (f, (k, word_at words index, simp length-map lt, get_or-map (word_at words) indexes k index (word_at words index) lt ∙ there, gives))
+pub gives_unread : (expected : Answer) (words : List (List ℕ)) (command : Command) (index : ℕ) (failed unreplaced : Type 0) (r : Result ℕ Interrupt) (out err : Change)
+    → failed → IsReadIndex command index → Gives (unread_answer (word_at words index)) r out err → GivesOrFails expected (read_by words command) failed unreplaced r out err
+gives_unread expected words command index failed unreplaced r out err f is gives =
+    inl (inr (f, named (λ (name : List ℕ). Gives (unread_answer name) r out err) words command index is gives))
+
+-- An answer to what was read is one to the words.
+pub gives_read : (expected : Answer) (names : List (List ℕ)) (failed before after : Type 0) (r : Result ℕ Interrupt) (out err : Change) → (before → after)
+    → GivesOrUnreplaced expected before r out err → GivesOrFails expected names failed after r out err
+gives_read expected names failed before after r out err later (inl (inl g)) = inl (inl g)
+gives_read expected names failed before after r out err later (inl (inr (never, others))) = absurd never
+gives_read expected names failed before after r out err later (inr (f, g)) = inr (later f, g)
 
 -- ---- answers to words
 
 -- Words that are no command have the usage as their answer.
-pub no_command_answer : (words : List (List ℕ)) (met : List (Option (List ℕ))) → None ≡ command_of words → expected words met ≡ error_answer 2 USAGE
+pub no_command_answer : (words : List (List ℕ)) (met : CallMet) → None ≡ command_of words → expected words met ≡ error_answer 2 USAGE
 no_command_answer words met e = rw (← e) refl
 
--- For them nothing is asked.
-pub no_command_asked : (words : List (List ℕ)) (met : List (Option (List ℕ))) → None ≡ command_of words → asked_by words met ≡ []
+-- For them nothing is asked, and nothing left.
+pub no_command_asked : (words : List (List ℕ)) (met : CallMet) → None ≡ command_of words → asked_by words met ≡ []
 no_command_asked words met e = rw (← e) refl
 
--- They name no file.
+pub no_command_left : (words : List (List ℕ)) (met : CallMet) → None ≡ command_of words → left_by words met ≡ None
+no_command_left words met e = rw (← e) refl
+
+-- They name no file, and no cache.
 pub no_command_files : (words : List (List ℕ)) → None ≡ command_of words → file_names words ≡ []
 no_command_files words e = rw (← e) refl
+
+pub no_command_cache : (words : List (List ℕ)) → None ≡ command_of words → cache_name words ≡ None
+no_command_cache words e = rw (← e) refl

@@ -1,5 +1,5 @@
 -- Where the section of an assembly has the line that tells a method to be proved, the method is safe.
-use Rattle.std.proofs.Common.{◌≡◌, ℕ, Bool, List, [], ◌++◌, Option, Some, None, slice_get, codes, sym, ap, subst, ◌∙◌, append_assoc}
+use Rattle.std.proofs.Common.{◌≡◌, ℕ, List, [], ◌++◌, Option, Some, None, slice_get, codes, sym, ap, subst, ◌∙◌, append_assoc}
 use Rattle.std.specs.Prelude.{Contains, IfSome, is_some, unwrap_or}
 use Rattle.std.proofs.lemmas.Option.{none-some}
 use Rattle.asm_image.specs.Rows.{methods_of}
@@ -16,11 +16,12 @@ use Rattle.check_driver.proofs.Members.{mapped_at}
 use Rattle.check_driver.proofs.PrintedSafety.{said_method}
 use Rattle.check_driver.proofs.ReportSections.{IsToldOf, begun_section, said_of}
 use Rattle.check_driver.proofs.Reported.{method_said, report_said}
+use Rattle.unit_verdicts.specs.Picks.{Manner}
 
 -- The reports of the files that these words name were begun as far as was written.
 abbrev pub AreBegunOf : Option Held → List (List ℕ) → Option (List ℕ) → Option (List ℕ) → Option Command → Type 0
 AreBegunOf told words old new command =
-    IfSome command (λ some. IfCheck some (λ check. AreHeldBegun told (is_some check.show) (words_at words (check_files check)) old new))
+    IfSome command (λ some. IfCheck some (λ check. AreHeldBegun told (words_at words (check_files check)) old new))
 
 -- What is known of a call's assembly and of what was appended.
 pub record IsKnownOf (told : Option Held) (words : List (List ℕ)) (held : Held) (k : ℕ) (bytes text : List ℕ) (old new : Option (List ℕ)) : Type 0 where
@@ -32,32 +33,32 @@ pub record IsKnownOf (told : Option Held) (words : List (List ℕ)) (held : Held
 -- The report of the assembly, under this name, has the line.
 record IsSaid (bytes line : List ℕ) : Type 0 where
   name : List ℕ
-  show : Bool
+  manner : Manner
   known : IsReportable bytes
-  has : Contains (report_said name show bytes) line
+  has : Contains (report_said name manner bytes) line
 
 module _ (told : Option Held) (words : List (List ℕ)) (held : Held) (k : ℕ) (bytes text : List ℕ) (old new : Option (List ℕ))
     (is : IsKnownOf told words held k bytes text old new) where
   -- The file of that index is the assembly.
-  said_of_file : (show : Bool) (names : List (List ℕ)) (line : List ℕ) → slice_get names k ≡ Some is.assembly.name
-      → IsToldOf show (held_files held names) k line → IsSaid bytes line
-  said_of_file show names line kth found =
+  said_of_file : (manner : Manner) (names : List (List ℕ)) (line : List ℕ) → slice_get names k ≡ Some is.assembly.name
+      → IsToldOf manner (held_files held names) k line → IsSaid bytes line
+  said_of_file manner names line kth found =
       let name = is.assembly.name in
       let there : (name, unwrap_or (held name) []) ≡ found.file = mapped_at (λ (n : List ℕ). (n, unwrap_or (held n) [])) names k name found.file kth found.kth in
       let same : found.file ≡ (name, bytes) = sym there ∙ ap (λ (under : Option (List ℕ)). (name, unwrap_or under [])) is.assembly.is_held in
       record {
         name = name;
-        show = show;
+        manner = manner;
         known = subst (λ (file : List ℕ × List ℕ). IsReportable file.1) same found.known;
-        has = subst (λ (file : List ℕ × List ℕ). Contains (said_of show file) line) same found.has;
+        has = subst (λ (file : List ℕ × List ℕ). Contains (said_of manner file) line) same found.has;
       }
 
   said_by : (line : List ℕ) → Contains (section k text) line → (command : Option Command) → slice_get (checked_files words command) k ≡ Some is.assembly.name
       → AreBegunOf told words old new command → IsSaid bytes line
   said_by line has (Some (commands.Check check)) kth begun =
-      let show = is_some check.show in
       let names = words_at words (check_files check) in
-      said_of_file show names line kth (begun_section show (held_files held names) old new text k line (begun held is.told_is) is.appended has)
+      let (manner, its) = begun held is.told_is in
+      said_of_file manner names line kth (begun_section manner (held_files held names) old new text k line its is.appended has)
   said_by line has (Some (commands.Unit file)) kth begun = absurd (none-some is.assembly.name kth)
   said_by line has (Some (commands.List file)) kth begun = absurd (none-some is.assembly.name kth)
   said_by line has (Some (commands.Il file method)) kth begun = absurd (none-some is.assembly.name kth)
@@ -80,5 +81,5 @@ module _ (told : Option Held) (words : List (List ℕ)) (held : Held) (k : ℕ) 
       let one = said (proved_line method) line in
       let head = codes "method " ++ hex 8 method.token.0 ++ codes " " ++ method.name in
       let same : proved_line method ≡ head ++ codes ": " ++ codes "proved" = sym (append_assoc head (codes ": ") (codes "proved")) in
-      said_method (IsSaid.name one) (IsSaid.show one) bytes method (IsReportable.accepted (IsSaid.known one)) (IsReportable.runnable (IsSaid.known one)) has
-      (subst (Contains (report_said (IsSaid.name one) (IsSaid.show one) bytes)) same (IsSaid.has one))
+      said_method (IsSaid.name one) (IsSaid.manner one) bytes method (IsReportable.accepted (IsSaid.known one)) (IsReportable.runnable (IsSaid.known one)) has
+      (subst (Contains (report_said (IsSaid.name one) (IsSaid.manner one) bytes)) same (IsSaid.has one))

@@ -1,5 +1,5 @@
 -- What is found of one method after another.
-use Rattle.std.proofs.Common.{◌≡◌, ℕ, Bool, zero, suc, ◌+◌, ◌<◌, ◌≤◌, List, [], ◌∷◌, ◌++◌, length, map, take, Some, slice_get, refl, ap, sym, ◌∙◌, arith}
+use Rattle.std.proofs.Common.{◌≡◌, ℕ, zero, suc, ◌+◌, ◌<◌, ◌≤◌, List, [], ◌∷◌, ◌++◌, length, map, take, Some, slice_get, refl, ap, sym, ◌∙◌, arith}
 use Rattle.std.specs.List.{AllByRecursion}
 use Rattle.std.proofs.lemmas.List.{length-map, map-append}
 use Rattle.asm_image.specs.Rows.{methods_of}
@@ -10,6 +10,7 @@ use Rattle.unit_builder.specs.declared.entry.MethodEntry.{MethodEntry}
 use Rattle.check_driver.specs.CheckText.{all_shown, outcome_finding, findings, outcome_shown}
 use Rattle.check_driver.specs.Findings.{shown_in, finding_in}
 use Rattle.check_driver.specs.declared.finding.Finding.{Finding as Found}
+use Rattle.unit_verdicts.specs.Picks.{Manner, Pick}
 
 -- The element at a place is the last of those up to it.
 there_next : {X : Type 0} (xs : List X) (n : ℕ) → n < length xs → (x : X) × (slice_get xs n ≡ Some x) × (take (suc n) xs ≡ take n xs ++ x ∷ [])
@@ -25,20 +26,21 @@ there xs n below =
     let one : n + 1 ≡ suc n = omega arith in
     (next.0, next.1, ap (λ m. take m xs) one ∙ next.2)
 
-pub found_next : (asm : List ℕ) (methods : List MethodRow) (n : ℕ) (method : MethodRow) (found : List Found) (one : Found)
-    → take (n + 1) methods ≡ take n methods ++ method ∷ [] → map finding_in found ≡ findings (map (entry_of asm) (take n methods)) → finding_in one ≡ outcome_finding (outcome_of asm method)
-    → map finding_in (found ++ one ∷ []) ≡ findings (map (entry_of asm) (take (n + 1) methods))
-found_next asm methods n method found one next so_far is =
+pub found_next : (asm : List ℕ) (pick : Pick) (methods : List MethodRow) (n : ℕ) (method : MethodRow) (found : List Found) (one : Found)
+    → take (n + 1) methods ≡ take n methods ++ method ∷ [] → map finding_in found ≡ findings pick (map (entry_of asm) (take n methods))
+    → finding_in one ≡ outcome_finding pick (outcome_of asm method)
+    → map finding_in (found ++ one ∷ []) ≡ findings pick (map (entry_of asm) (take (n + 1) methods))
+found_next asm pick methods n method found one next so_far is =
     map-append finding_in found (one ∷ [])
-    ∙ rw (so_far, is) (sym (ap (λ (l : List MethodRow). findings (map (entry_of asm) l)) next ∙ ap findings (map-append (entry_of asm) (take n methods) (method ∷ [])) ∙ map-append (λ (e : MethodEntry). outcome_finding e.outcome) (map (entry_of asm) (take n methods)) (entry_of asm method ∷ [])))
+    ∙ rw (so_far, is) (sym (ap (λ (l : List MethodRow). findings pick (map (entry_of asm) l)) next ∙ ap (findings pick) (map-append (entry_of asm) (take n methods) (method ∷ [])) ∙ map-append (λ (e : MethodEntry). outcome_finding pick e.outcome) (map (entry_of asm) (take n methods)) (entry_of asm method ∷ [])))
 
-pub shown_next : (asm : List ℕ) (show : Bool) (methods : List MethodRow) (n : ℕ) (method : MethodRow) (found : List Found) (one : Found)
-    → take (n + 1) methods ≡ take n methods ++ method ∷ [] → map shown_in found ≡ all_shown show (map (entry_of asm) (take n methods))
-    → shown_in one ≡ outcome_shown show (outcome_of asm method)
-    → map shown_in (found ++ one ∷ []) ≡ all_shown show (map (entry_of asm) (take (n + 1) methods))
-shown_next asm show methods n method found one next so_far is =
+pub shown_next : (asm : List ℕ) (manner : Manner) (methods : List MethodRow) (n : ℕ) (method : MethodRow) (found : List Found) (one : Found)
+    → take (n + 1) methods ≡ take n methods ++ method ∷ [] → map shown_in found ≡ all_shown manner (map (entry_of asm) (take n methods))
+    → shown_in one ≡ outcome_shown manner (outcome_of asm method)
+    → map shown_in (found ++ one ∷ []) ≡ all_shown manner (map (entry_of asm) (take (n + 1) methods))
+shown_next asm manner methods n method found one next so_far is =
     map-append shown_in found (one ∷ [])
-    ∙ rw (so_far, is) (sym (ap (λ (l : List MethodRow). all_shown show (map (entry_of asm) l)) next ∙ ap (all_shown show) (map-append (entry_of asm) (take n methods) (method ∷ [])) ∙ map-append (λ (e : MethodEntry). outcome_shown show e.outcome) (map (entry_of asm) (take n methods)) (entry_of asm method ∷ [])))
+    ∙ rw (so_far, is) (sym (ap (λ (l : List MethodRow). all_shown manner (map (entry_of asm) l)) next ∙ ap (all_shown manner) (map-append (entry_of asm) (take n methods) (method ∷ [])) ∙ map-append (λ (e : MethodEntry). outcome_shown manner e.outcome) (map (entry_of asm) (take n methods)) (entry_of asm method ∷ [])))
 
 abbrev pub AreKnown : List ℕ → List MethodRow → Type 0
 AreKnown asm methods = AllByRecursion (λ entry. IfAnalysed entry.outcome IsUnit) (map (entry_of asm) methods)
@@ -58,7 +60,7 @@ all_taken (x ∷ xs) zero long = absurd (omega (arith, long))
 all_taken (x ∷ xs) (suc n) long = ap (λ others. x ∷ others) (all_taken xs n (omega (arith, long)))
 
 -- There are as many findings as methods.
-pub found_few : (asm : List ℕ) (found : List Found) → map finding_in found ≡ findings (entries_of asm) → length found ≡ length (methods_of asm)
+pub found_few : (asm : List ℕ) (pick : Pick) (found : List Found) → map finding_in found ≡ findings pick (entries_of asm) → length found ≡ length (methods_of asm)
 unfolding entries_of
-found_few asm found same =
-    sym (length-map found finding_in) ∙ ap length same ∙ length-map (map (entry_of asm) (methods_of asm)) (λ (e : MethodEntry). outcome_finding e.outcome) ∙ length-map (methods_of asm) (entry_of asm)
+found_few asm pick found same =
+    sym (length-map found finding_in) ∙ ap length same ∙ length-map (map (entry_of asm) (methods_of asm)) (λ (e : MethodEntry). outcome_finding pick e.outcome) ∙ length-map (methods_of asm) (entry_of asm)

@@ -5,6 +5,7 @@ use Rattle.std.proofs.lemmas.Option.{same_Some}
 use Rattle.cc_base.specs.Files.{Held}
 use Rattle.cc_base.specs.Sink.{appended}
 use Rattle.check_driver.specs.Expected.{bytes_answer, command_answer, expected, files_answer, missing_or}
+use Rattle.check_driver.specs.CacheMet.{CallMet}
 use Rattle.check_driver.specs.Met.{AreUnder, first_missing}
 use Rattle.command_words.specs.Words.{command_of, file_indexes, word_at, words_at}
 use Rattle.command_words.specs.declared.command.Command.{Command}
@@ -17,12 +18,17 @@ same_appended old new front before text adds was is =
     append_cancel_left before front text (same_Some (before ++ front) (before ++ text) both)
 
 -- What is met is the file of a command that has one.
-pub file_asked : (words : List (List ℕ)) (command : Command) (file : ℕ) (held : Held) (bytes : List ℕ) (met : List (Option (List ℕ))) → file_indexes command ≡ file ∷ []
-    → held (word_at words file) ≡ Some bytes → command_of words ≡ Some command → AreUnder (Some held) (words_at words (file ∷ [])) met
-    → expected words met ≡ bytes_answer command words (bytes ∷ [])
-file_asked words command file held bytes (under ∷ []) one at asked (is, last) =
-    let met_is : under ≡ Some bytes = sym (is held refl) ∙ at in
-    ap (command_answer words (under ∷ [])) asked ∙ ap (λ (u : Option (List ℕ)). files_answer command words (u ∷ [])) met_is
-    ∙ ap (λ (indexes : List ℕ). missing_or (first_missing (words_at words indexes) (Some bytes ∷ [])) (bytes_answer command words (bytes ∷ []))) one
-file_asked words command file held bytes [] one at asked h = absurd h
-file_asked words command file held bytes (under ∷ other ∷ met) one at asked h = absurd h.1
+pub file_asked : (words : List (List ℕ)) (command : Command) (file : ℕ) (held : Held) (bytes : List ℕ) (met : CallMet) → file_indexes command ≡ file ∷ []
+    → held (word_at words file) ≡ Some bytes → command_of words ≡ Some command → AreUnder (Some held) (words_at words (file ∷ [])) met.files
+    → expected words met ≡ bytes_answer command words met.cache (bytes ∷ [])
+file_asked words command file held bytes met one at asked under = by met.files under
+  where
+    by : (files : List (Option (List ℕ))) → AreUnder (Some held) (words_at words (file ∷ [])) files
+        → expected words (record { files = files; cache = met.cache }) ≡ bytes_answer command words met.cache (bytes ∷ [])
+    by (under ∷ []) (is, last) =
+        let met_is : under ≡ Some bytes = sym (is held refl) ∙ at in
+        ap (command_answer words (record { files = under ∷ []; cache = met.cache })) asked
+        ∙ ap (λ (u : Option (List ℕ)). files_answer command words (record { files = u ∷ []; cache = met.cache })) met_is
+        ∙ ap (λ (indexes : List ℕ). missing_or (first_missing (words_at words indexes) (Some bytes ∷ [])) (bytes_answer command words met.cache (bytes ∷ []))) one
+    by [] h = absurd h
+    by (under ∷ other ∷ files) h = absurd h.1

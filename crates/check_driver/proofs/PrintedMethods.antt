@@ -11,7 +11,7 @@ use Rattle.pe_reader.specs.Addresses.{metadata}
 use Rattle.cil_model.specs.declared.unit.CalleeInfo.{CalleeInfo}
 use Rattle.invariant_checker.specs.Counts.{all_proved}
 use Rattle.invariant_checker.specs.declared.verdict.Verdict.{Verdict}
-use Rattle.check_driver.proofs.UnitSafety.{proved_unit_safe}
+use Rattle.unit_verdicts.proofs.UnitSafety.{proved_under_safe}
 use Rattle.method_unit.specs.Units.{IsUnit}
 use Rattle.unit_builder.specs.Outcomes.{IfAnalysed, entry_of, outcome_of}
 use Rattle.unit_builder.specs.declared.entry.Outcome.{Outcome}
@@ -23,6 +23,7 @@ use Rattle.check_driver.proofs.Members.{contains_behind, contains_first, none_co
 use Rattle.check_driver.proofs.Reported.{entry_said, finding_said, method_said, shown_said, verdict_said, verdicts_said}
 use Rattle.check_driver.proofs.ShownLines.{no_shown_line}
 use Rattle.cc_base.proofs.DigitLemmas.{length-hex}
+use Rattle.unit_verdicts.specs.Picks.{Manner, Pick}
 
 -- ---- numbers in base sixteen
 
@@ -108,38 +109,39 @@ unfolding verdicts_said
 none_of_finding (WithVerdicts callees found) token name text has = no_verdict callees found token name text has
 none_of_finding (NotAnalysed reason) token name text has = none_contained _ has
 
-none_of_shown : (show : Bool) (outcome : Outcome) (token : ℕ) (name text : List ℕ) → Contains (shown_said show outcome) (method_said token name text) → ⊥
+none_of_shown : (manner : Manner) (outcome : Outcome) (token : ℕ) (name text : List ℕ) → Contains (shown_said manner outcome) (method_said token name text) → ⊥
 unfolding shown_said method_said
-none_of_shown show outcome token name text has = no_shown_line show outcome _ (λ e. let letters : 109 ≡ 32 = e in omega (arith, letters)) has
+none_of_shown manner outcome token name text has = no_shown_line manner outcome _ (λ e. let letters : 109 ≡ 32 = e in omega (arith, letters)) has
 
 -- ---- the line among those of some rows
 
 -- What is told of the method of a row.
-unfoldable pub row_said : List ℕ → ℕ → List ℕ
-row_said asm row = let method = method_row (metadata asm) row in method_said method.token.0 method.name (verdict_text (outcome_finding (outcome_of asm method)))
+unfoldable pub row_said : Pick → List ℕ → ℕ → List ℕ
+row_said pick asm row =
+    let method = method_row (metadata asm) row in method_said method.token.0 method.name (verdict_text (outcome_finding pick (outcome_of asm method)))
 
-pub among_rows : (asm : List ℕ) (show : Bool) (rows : List ℕ) (token : ℕ) (name text : List ℕ)
-    → Contains (flat_map (entry_said show) (map (entry_of asm) (map (method_row (metadata asm)) rows))) (method_said token name text)
-    → (row : ℕ) × Contains rows row × (row_said asm row ≡ method_said token name text)
+pub among_rows : (asm : List ℕ) (manner : Manner) (rows : List ℕ) (token : ℕ) (name text : List ℕ)
+    → Contains (flat_map (entry_said manner) (map (entry_of asm) (map (method_row (metadata asm)) rows))) (method_said token name text)
+    → (row : ℕ) × Contains rows row × (row_said manner.pick asm row ≡ method_said token name text)
 unfolding entry_said finding_said row_said
-among_rows asm show [] token name text has = absurd (none_contained _ has)
-among_rows asm show (row ∷ rows) token name text has =
+among_rows asm manner [] token name text has = absurd (none_contained _ has)
+among_rows asm manner (row ∷ rows) token name text has =
     let line = method_said token name text in
     let method = method_row (metadata asm) row in
-    let found = outcome_finding (outcome_of asm method) in
-    let said = row_said asm row ∷ verdicts_said found in
-    elim (contains_behind (said ++ shown_said show (outcome_of asm method)) (flat_map (entry_said show) (map (entry_of asm) (map (method_row (metadata asm)) rows))) line has) [
+    let found = outcome_finding manner.pick (outcome_of asm method) in
+    let said = row_said manner.pick asm row ∷ verdicts_said found in
+    elim (contains_behind (said ++ shown_said manner (outcome_of asm method)) (flat_map (entry_said manner) (map (entry_of asm) (map (method_row (metadata asm)) rows))) line has) [
       | inl here ↦
-          elim (contains_behind said (shown_said show (outcome_of asm method)) line here) [
+          elim (contains_behind said (shown_said manner (outcome_of asm method)) line here) [
             | inl among ↦
-                elim (contains_first (row_said asm row) line (verdicts_said found) among) [
+                elim (contains_first (row_said manner.pick asm row) line (verdicts_said found) among) [
                   | inl same ↦ (row, (0, omega arith, refl), same)
                   | inr verdict ↦ absurd (none_of_finding found token name text verdict)
                 ]
-            | inr shown ↦ absurd (none_of_shown show (outcome_of asm method) token name text shown)
+            | inr shown ↦ absurd (none_of_shown manner (outcome_of asm method) token name text shown)
           ]
       | inr later ↦
-          let there = among_rows asm show rows token name text later in
+          let there = among_rows asm manner rows token name text later in
           (there.0, (suc there.1.0, omega (arith, there.1.1), there.1.2), there.2)
     ]
 
@@ -154,7 +156,8 @@ proved_tells (WithVerdicts callees found) e = by_verdict (all_proved found) e
 proved_tells (NotAnalysed reason) e = absurd (let letters : 110 ≡ 112 = ap (λ (l : List ℕ). get_or l 0 0) e in omega (arith, letters))
 
 -- A method that is proved is analysed, and its unit has no obligation that is not proved.
-pub safe_by : (asm : List ℕ) (method : MethodRow) (outcome : Outcome) → outcome_of asm method ≡ outcome → is_proved (outcome_finding outcome) ≡ true → IfAnalysed outcome IsUnit → IsSafeMethod asm method
-safe_by asm method (Analysed unit) same proved runnable =
-    record { unit = unit; analysed = same; safe = proved_unit_safe unit runnable proved }
-safe_by asm method (Skipped reason) same proved runnable = absurd cc
+pub safe_by : (pick : Pick) (asm : List ℕ) (method : MethodRow) (outcome : Outcome) → outcome_of asm method ≡ outcome
+    → is_proved (outcome_finding pick outcome) ≡ true → IfAnalysed outcome IsUnit → IsSafeMethod asm method
+safe_by pick asm method (Analysed unit) same proved runnable =
+    record { unit = unit; analysed = same; safe = proved_under_safe pick unit runnable proved }
+safe_by pick asm method (Skipped reason) same proved runnable = absurd cc

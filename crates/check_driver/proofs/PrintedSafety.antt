@@ -1,5 +1,5 @@
 -- A method is safe whose line in the report of its assembly tells it to be proved.
-use Rattle.std.proofs.Common.{◌≡◌, ℕ, zero, suc, ◌+◌, ◌<◌, ◌^◌, Bool, List, [], ◌∷◌, ◌++◌, get_or, None, refl, sym, ap, subst, inl, inr, codes, arith}
+use Rattle.std.proofs.Common.{◌≡◌, ℕ, zero, suc, ◌+◌, ◌<◌, ◌^◌, List, [], ◌∷◌, ◌++◌, get_or, None, refl, sym, ap, subst, inl, inr, codes, arith}
 use Rattle.std.specs.Prelude.{Contains}
 use Rattle.std.specs.List.{AllByRecursion, flat_map, range_with_len}
 use Rattle.asm_image.specs.Cells.{method_count}
@@ -20,6 +20,7 @@ use Rattle.check_driver.proofs.Reported.{entry_said, method_said, report_said}
 use Rattle.answer_lines.proofs.SingleLines.{summary_front, summary_said}
 use Rattle.check_driver.proofs.ReportTexts.{all_behind, assembly_one_line, rows_one_line, summary_one_line}
 use Rattle.answer_lines.proofs.WholeLines.{IsOneLine}
+use Rattle.unit_verdicts.specs.Picks.{Manner, Pick}
 
 -- ---- rows
 
@@ -33,28 +34,28 @@ range_below first (suc count) row has =
 
 -- ---- the line
 
-pub report_one_line : (name : List ℕ) (show : Bool) (bytes : List ℕ) → AreRunnable bytes
-    → AllByRecursion IsOneLine (report_said name show bytes)
+pub report_one_line : (name : List ℕ) (manner : Manner) (bytes : List ℕ) → AreRunnable bytes
+    → AllByRecursion IsOneLine (report_said name manner bytes)
 unfolding report_said entries_of rows_of
-report_one_line name show bytes runnable = (
+report_one_line name manner bytes runnable = (
   assembly_one_line name,
-  all_behind IsOneLine (flat_map (entry_said show) (entries_of bytes)) (summary_said (all_counts (entries_of bytes)) ∷ [])
-      (rows_one_line bytes show (range_with_len 1 (method_count (metadata bytes))) runnable) (summary_one_line (all_counts (entries_of bytes)), tt),
+  all_behind IsOneLine (flat_map (entry_said manner) (entries_of bytes)) (summary_said (all_counts manner.pick (entries_of bytes)) ∷ [])
+      (rows_one_line bytes manner (range_with_len 1 (method_count (metadata bytes))) runnable) (summary_one_line (all_counts manner.pick (entries_of bytes)), tt),
 )
 
 -- The line of a method among those of a report is that of a row.
-row_of_report : (name : List ℕ) (show : Bool) (bytes : List ℕ) (token : ℕ) (method text : List ℕ) → Contains (report_said name show bytes) (method_said token method text)
-    → (row : ℕ) × Contains (range_with_len 1 (method_count (metadata bytes))) row × (row_said bytes row ≡ method_said token method text)
+row_of_report : (name : List ℕ) (manner : Manner) (bytes : List ℕ) (token : ℕ) (method text : List ℕ) → Contains (report_said name manner bytes) (method_said token method text)
+    → (row : ℕ) × Contains (range_with_len 1 (method_count (metadata bytes))) row × (row_said manner.pick bytes row ≡ method_said token method text)
 unfolding report_said entries_of rows_of summary_said summary_front method_said
-row_of_report name show bytes token method text has =
+row_of_report name manner bytes token method text has =
     let line = method_said token method text in
-    let said = flat_map (entry_said show) (entries_of bytes) in
-    let summary = summary_said (all_counts (entries_of bytes)) in
+    let said = flat_map (entry_said manner) (entries_of bytes) in
+    let summary = summary_said (all_counts manner.pick (entries_of bytes)) in
     elim (contains_first (codes "assembly " ++ escaped name) line (said ++ summary ∷ []) has) [
       | inl same ↦ absurd (let letters : 97 ≡ 109 = ap (λ (l : List ℕ). get_or l 0 0) same in omega (arith, letters))
       | inr later ↦
           elim (contains_behind said (summary ∷ []) line later) [
-            | inl here ↦ among_rows bytes show (range_with_len 1 (method_count (metadata bytes))) token method text here
+            | inl here ↦ among_rows bytes manner (range_with_len 1 (method_count (metadata bytes))) token method text here
             | inr last ↦
                 elim (contains_first summary line [] last) [
                   | inl same ↦ absurd (let letters : 115 ≡ 109 = ap (λ (l : List ℕ). get_or l 0 0) same in omega (arith, letters))
@@ -66,34 +67,35 @@ row_of_report name show bytes token method text has =
 -- ---- the method
 
 -- Rows whose lines are equal but for what they tell are one.
-same_row : (bytes : List ℕ) (row other : ℕ) (text : List ℕ) → row < 2 ^ 23 + 1 → other < 2 ^ 23 + 1
-    → row_said bytes other ≡ method_said (method_row (metadata bytes) row).token.0 (method_row (metadata bytes) row).name text
-    → (other ≡ row) × (verdict_text (outcome_finding (outcome_of bytes (method_row (metadata bytes) row))) ≡ text)
+same_row : (pick : Pick) (bytes : List ℕ) (row other : ℕ) (text : List ℕ) → row < 2 ^ 23 + 1 → other < 2 ^ 23 + 1
+    → row_said pick bytes other ≡ method_said (method_row (metadata bytes) row).token.0 (method_row (metadata bytes) row).name text
+    → (other ≡ row) × (verdict_text (outcome_finding pick (outcome_of bytes (method_row (metadata bytes) row))) ≡ text)
 unfolding row_said method_row
-same_row bytes row other text small few e =
+same_row pick bytes row other text small few e =
     let mine = method_row (metadata bytes) row in
     let its = method_row (metadata bytes) other in
-    let both = same_said its.token.0 mine.token.0 its.name mine.name (verdict_text (outcome_finding (outcome_of bytes its))) text (omega (arith, few)) (omega (arith, small)) e in
+    let both = same_said its.token.0 mine.token.0 its.name mine.name (verdict_text (outcome_finding pick (outcome_of bytes its))) text (omega (arith, few)) (omega (arith, small)) e in
     let same : other ≡ row = omega (arith, both.0) in (
       same,
-      same_text mine.name (verdict_text (outcome_finding (outcome_of bytes mine))) text
-          (subst (λ (r : ℕ). behind_digits (method_row (metadata bytes) r).name (verdict_text (outcome_finding (outcome_of bytes (method_row (metadata bytes) r)))) ≡ behind_digits mine.name text) same both.1),
+      same_text mine.name (verdict_text (outcome_finding pick (outcome_of bytes mine))) text
+          (subst (λ (r : ℕ). behind_digits (method_row (metadata bytes) r).name (verdict_text (outcome_finding pick (outcome_of bytes (method_row (metadata bytes) r)))) ≡ behind_digits mine.name text) same both.1),
     )
 
 -- A method is safe that is told to be proved by one of the lines of the report of its assembly.
-pub said_method : (name : List ℕ) (show : Bool) (bytes : List ℕ) (method : MethodRow) → FirstBroken bytes ≡ None → AreRunnable bytes
-    → Contains (methods_of bytes) method → Contains (report_said name show bytes) (method_said method.token.0 method.name (codes "proved")) → IsSafeMethod bytes method
+pub said_method : (name : List ℕ) (manner : Manner) (bytes : List ℕ) (method : MethodRow) → FirstBroken bytes ≡ None → AreRunnable bytes
+    → Contains (methods_of bytes) method → Contains (report_said name manner bytes) (method_said method.token.0 method.name (codes "proved")) → IsSafeMethod bytes method
 unfolding entries_of rows_of row_said method_row
-said_method name show bytes method whole runnable has line =
+said_method name manner bytes method whole runnable has line =
     let md = metadata bytes in
     let rows = range_with_len 1 (method_count md) in
     let mine = contains_map (method_row md) rows method has in
     let few = methods_are_few bytes whole in
     let row = mine.0 in
-    let found : Contains (report_said name show bytes) (method_said (method_row md row).token.0 (method_row md row).name (codes "proved")) =
-    subst (λ (m : MethodRow). Contains (report_said name show bytes) (method_said m.token.0 m.name (codes "proved"))) (sym mine.2) line in
-    let told = row_of_report name show bytes (method_row md row).token.0 (method_row md row).name (codes "proved") found in
-    let same = same_row bytes row told.0 (codes "proved") (omega (arith, few, range_below 1 (method_count md) row mine.1)) (omega (arith, few, range_below 1 (method_count md) told.0 told.1)) told.2 in
+    let found : Contains (report_said name manner bytes) (method_said (method_row md row).token.0 (method_row md row).name (codes "proved")) =
+    subst (λ (m : MethodRow). Contains (report_said name manner bytes) (method_said m.token.0 m.name (codes "proved"))) (sym mine.2) line in
+    let told = row_of_report name manner bytes (method_row md row).token.0 (method_row md row).name (codes "proved") found in
+    let same = same_row manner.pick bytes row told.0 (codes "proved") (omega (arith, few, range_below 1 (method_count md) row mine.1)) (omega (arith, few, range_below 1 (method_count md) told.0 told.1)) told.2 in
     let is_runnable = all_at (λ (entry : MethodEntry). IfAnalysed entry.outcome IsUnit) (entry_of bytes) (methods_of bytes) (method_row md row) runnable (subst (Contains (methods_of bytes)) (sym mine.2) has) in
     subst (IsSafeMethod bytes) mine.2
-    (safe_by bytes (method_row md row) (outcome_of bytes (method_row md row)) refl (proved_tells (outcome_finding (outcome_of bytes (method_row md row))) same.1) is_runnable)
+    (safe_by manner.pick bytes (method_row md row) (outcome_of bytes (method_row md row)) refl
+    (proved_tells (outcome_finding manner.pick (outcome_of bytes (method_row md row))) same.1) is_runnable)

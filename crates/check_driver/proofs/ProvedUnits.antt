@@ -19,12 +19,13 @@ use Rattle.command_words.specs.declared.command.Command.TheVariants as commands
 use Rattle.method_unit.specs.UnitFile.{first_unit_fault, unit_of}
 use Rattle.method_unit.specs.declared.unit_fault.UnitFault.{UnitFault}
 use Rattle.invariant_checker.specs.Counts.{all_proved}
-use Rattle.check_driver.specs.Analysis.{unit_verdicts}
-use Rattle.check_driver.proofs.UnitSafety.{proved_unit_safe}
+use Rattle.unit_verdicts.specs.Picks.{limit_pick}
+use Rattle.unit_verdicts.proofs.UnitSafety.{proved_under_safe}
 use Rattle.check_driver.specs.Expected.{expected, unit_answer, unit_file_answer}
+use Rattle.check_driver.specs.CacheMet.{CallMet}
 use Rattle.check_driver.specs.Met.{AreUnder}
 use Rattle.check_driver.specs.ProvedUnit.{AreSpelled, AsksForUnit, IfUnit, IsHeldSpelled, PrintsProvedUnit, SpellSafeUnit}
-use Rattle.check_driver.specs.ReportText.{unit_counts, unit_report, verdict_line}
+use Rattle.check_driver.specs.ReportText.{unit_counts, unit_report, unit_verdicts, verdict_line}
 use Rattle.check_driver.specs.Sections.{lines_of}
 use Rattle.check_driver.proofs.OnlyFile.{file_asked, same_appended}
 use Rattle.check_driver.proofs.LinesOf.{first_line}
@@ -93,12 +94,12 @@ answer_report name bytes text line None first front = (refl, front)
 answer_report name bytes text line (Some fault) first front = absurd (nothing_has_lines text line first front)
 
 -- A text with a line that begins what is expected begins the report of the unit.
-front_of_report : (words : List (List ℕ)) (held : Held) (bytes : List ℕ) (met : List (Option (List ℕ))) (text line : List ℕ) → AsksForUnit words held bytes
-    → AreUnder (Some held) (file_names words) met → slice_get (lines_of text) 0 ≡ Some line → IsFront text (Answer.out (expected words met))
+front_of_report : (words : List (List ℕ)) (held : Held) (bytes : List ℕ) (met : CallMet) (text line : List ℕ) → AsksForUnit words held bytes
+    → AreUnder (Some held) (file_names words) met.files → slice_get (lines_of text) 0 ≡ Some line → IsFront text (Answer.out (expected words met))
     → (first_unit_fault bytes ≡ None) × IsFront text (unit_report (unit_of bytes))
 front_of_report words held bytes met text line asks under first front =
     let name = word_at words asks.file in
-    let here = subst (λ (command : Option Command). AreUnder (Some held) (command_files words command) met) asks.command under in
+    let here = subst (λ (command : Option Command). AreUnder (Some held) (command_files words command) met.files) asks.command under in
     let answer = file_asked words (commands.Unit asks.file) asks.file held bytes met refl asks.is_held asks.command here in
     let begins : IsFront text (Answer.out (unit_file_answer name bytes)) = subst (λ (a : Answer). IsFront text a.out) answer front in
     answer_report name bytes text line (first_unit_fault bytes) first
@@ -114,8 +115,8 @@ spelled_of told words held bytes told_is asks known =
 
 -- A file that was asked for is the spelling of a safe unit where the first line of what was printed tells that unit to
 -- be proved.
-pub proved_unit_is_safe : (told : Option Held) (words : List (List ℕ)) (held : Held) (bytes signature : List ℕ) (met : List (Option (List ℕ))) (old new : Option (List ℕ))
-    → told ≡ Some held → AsksForUnit words held bytes → AreUnder told (file_names words) met → AppendsFront old new (expected words met).out
+pub proved_unit_is_safe : (told : Option Held) (words : List (List ℕ)) (held : Held) (bytes signature : List ℕ) (met : CallMet) (old new : Option (List ℕ))
+    → told ≡ Some held → AsksForUnit words held bytes → AreUnder told (file_names words) met.files → AppendsFront old new (expected words met).out
     → (new ≡ old) ⊎ IfSome (command_of words) (λ command. IfUnit command (λ file. IsHeldSpelled told (word_at words file)))
     → PrintsProvedUnit old new signature → SpellSafeUnit bytes signature
 proved_unit_is_safe told words held bytes signature met old new told_is asks under appends (inl same) prints =
@@ -124,7 +125,7 @@ proved_unit_is_safe told words held bytes signature met old new told_is asks und
 proved_unit_is_safe told words held bytes signature met old new told_is asks under (front, is_front, adds) (inr known) prints =
     let unit = unit_of bytes in
     let spelled = spelled_of told words held bytes told_is asks known in
-    let here = subst (λ (t : Option Held). AreUnder t (file_names words) met) told_is under in
+    let here = subst (λ (t : Option Held). AreUnder t (file_names words) met.files) told_is under in
     let same : front ≡ prints.text = same_appended old new front prints.appended.before prints.text adds prints.appended.was prints.appended.is in
     let begins = subst (λ (t : List ℕ). IsFront t (Answer.out (expected words met))) same is_front in
     let report = front_of_report words held bytes met prints.text _ asks here prints.first begins in
@@ -134,5 +135,5 @@ proved_unit_is_safe told words held bytes signature met old new told_is asks und
       is_unit = spelled.is_unit;
       spelled = spelled.spelled;
       named = tells.0;
-      safe = proved_unit_safe unit spelled.is_unit tells.1;
+      safe = proved_under_safe limit_pick unit spelled.is_unit tells.1;
     }

@@ -24,6 +24,7 @@ use Rattle.assembly_answers.specs.Answers.{no_world_answer, refute_file_answer, 
 use Rattle.assembly_answers.specs.declared.method_world.NoWorld.{NoWorld}
 use Rattle.assembly_answers.specs.declared.method_world.NoWorld.TheVariants.{NoMethod, NotAnalysed, Refused, SeveralMethods}
 use Rattle.check_driver.specs.Expected.{expected}
+use Rattle.check_driver.specs.CacheMet.{CallMet}
 use Rattle.check_driver.specs.Met.{AreUnder}
 use Rattle.check_driver.specs.Refuted.{AsksToRefute, PrintsRefuted}
 use Rattle.check_driver.proofs.OnlyFile.{file_asked, same_appended}
@@ -81,16 +82,16 @@ world_is bytes method token None w named is = by_method (method_of bytes token) 
 
 -- ---- the theorem
 
-pub refuted_is_unsafe : (told : Option Held) (words : List (List ℕ)) (held : Held) (bytes : List ℕ) (token : Token) (met : List (Option (List ℕ))) (old new : Option (List ℕ))
-    → told ≡ Some held → AsksToRefute words held bytes token → AreUnder told (file_names words) met → AppendsFront old new (expected words met).out → PrintsRefuted old new
+pub refuted_is_unsafe : (told : Option Held) (words : List (List ℕ)) (held : Held) (bytes : List ℕ) (token : Token) (met : CallMet) (old new : Option (List ℕ))
+    → told ≡ Some held → AsksToRefute words held bytes token → AreUnder told (file_names words) met.files → AppendsFront old new (expected words met).out → PrintsRefuted old new
     → Safe (world_of bytes token.0) 0 → ⊥
 refuted_is_unsafe told words held bytes token met old new told_is asks under (front, is_front, adds) prints safe =
     let name = word_at words asks.file in
     let method = word_at words asks.method in
     let text = codes "refuted:" ++ prints.others in
     let same : front ≡ text = same_appended old new front prints.appended.before text adds prints.appended.was prints.appended.is in
-    let here = subst (λ (t : Option Held). AreUnder t (file_names words) met) told_is under in
-    let files = subst (λ (command : Option Command). AreUnder (Some held) (command_files words command) met) asks.command here in
+    let here = subst (λ (t : Option Held). AreUnder t (file_names words) met.files) told_is under in
+    let files = subst (λ (command : Option Command). AreUnder (Some held) (command_files words command) met.files) asks.command here in
     let answer = file_asked words (commands.Refute asks.file asks.method asks.runs) asks.file held bytes met refl asks.is_held asks.command files in
     let begins : BeginsRefuted prints.others (refute_file_answer name method asks.runs bytes (FirstBroken bytes)).out =
     subst (λ (a : Answer). IsFront text a.out) answer (subst (λ (t : List ℕ). IsFront t (Answer.out (expected words met))) same is_front) in

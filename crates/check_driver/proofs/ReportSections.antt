@@ -1,5 +1,5 @@
 -- The sections of the reports that were begun.
-use Rattle.std.proofs.Common.{◌≡◌, ◌≢◌, ℕ, Bool, List, [], ◌∷◌, ◌++◌, map, get_or, take, Option, Some, slice_get, slice_index_or, refl, sym, ap, subst, ◌∙◌, arith}
+use Rattle.std.proofs.Common.{◌≡◌, ◌≢◌, ℕ, List, [], ◌∷◌, ◌++◌, map, get_or, take, Option, Some, slice_get, slice_index_or, refl, sym, ap, subst, ◌∙◌, arith}
 use Rattle.std.specs.Prelude.{Contains}
 use Rattle.std.specs.List.{AllByRecursion, flat_map}
 use Rattle.std.proofs.lemmas.Bool.{ne_eqb}
@@ -23,6 +23,7 @@ use Rattle.check_driver.proofs.ReportTexts.{all_behind}
 use Rattle.check_driver.proofs.Reported.{entry_said, finding_said, lines_behind, method_said, report_is_lines, report_said, shown_said, verdict_said, verdicts_said}
 use Rattle.check_driver.proofs.SectionLemmas.{IsInside, IsSection, front_of_lines, section_of_front}
 use Rattle.check_driver.proofs.ShownLines.{no_shown_line}
+use Rattle.unit_verdicts.specs.Picks.{Manner}
 
 -- ---- a report is a section
 
@@ -48,80 +49,80 @@ unfolding verdicts_said
 verdicts_inside (WithVerdicts callees found) = all_verdicts_inside callees found
 verdicts_inside (NotAnalysed reason) = tt
 
-shown_inside : (show : Bool) (outcome : Outcome) → AllByRecursion IsInside (shown_said show outcome)
+shown_inside : (manner : Manner) (outcome : Outcome) → AllByRecursion IsInside (shown_said manner outcome)
 unfolding shown_said
-shown_inside show outcome =
-    all_of_each IsInside (lines_of (outcome_shown show outcome))
-    (λ line has. inside line (λ letter. no_shown_line show outcome line (λ space. let letters : 97 ≡ 32 = sym letter ∙ space in omega (arith, letters)) has))
+shown_inside manner outcome =
+    all_of_each IsInside (lines_of (outcome_shown manner outcome))
+    (λ line has. inside line (λ letter. no_shown_line manner outcome line (λ space. let letters : 97 ≡ 32 = sym letter ∙ space in omega (arith, letters)) has))
 
-entry_inside : (show : Bool) (entry : MethodEntry) → AllByRecursion IsInside (entry_said show entry)
+entry_inside : (manner : Manner) (entry : MethodEntry) → AllByRecursion IsInside (entry_said manner entry)
 unfolding entry_said finding_said
-entry_inside show entry =
-    let found = outcome_finding entry.outcome in
-    all_behind IsInside (method_said entry.token.0 entry.name (verdict_text found) ∷ verdicts_said found) (shown_said show entry.outcome)
-    (method_inside entry.token.0 entry.name (verdict_text found), verdicts_inside found) (shown_inside show entry.outcome)
+entry_inside manner entry =
+    let found = outcome_finding manner.pick entry.outcome in
+    all_behind IsInside (method_said entry.token.0 entry.name (verdict_text found) ∷ verdicts_said found) (shown_said manner entry.outcome)
+    (method_inside entry.token.0 entry.name (verdict_text found), verdicts_inside found) (shown_inside manner entry.outcome)
 
-entries_inside : (show : Bool) (entries : List MethodEntry) → AllByRecursion IsInside (flat_map (entry_said show) entries)
-entries_inside show [] = tt
-entries_inside show (entry ∷ entries) =
-    all_behind IsInside (entry_said show entry) (flat_map (entry_said show) entries) (entry_inside show entry) (entries_inside show entries)
+entries_inside : (manner : Manner) (entries : List MethodEntry) → AllByRecursion IsInside (flat_map (entry_said manner) entries)
+entries_inside manner [] = tt
+entries_inside manner (entry ∷ entries) =
+    all_behind IsInside (entry_said manner entry) (flat_map (entry_said manner) entries) (entry_inside manner entry) (entries_inside manner entries)
 
 summary_inside : (n : Counts) → IsInside (summary_said n)
 unfolding summary_said summary_front
 summary_inside n = inside (summary_said n) (λ e. let letters : 115 ≡ 97 = e in omega (arith, letters))
 
-report_is_section : (name : List ℕ) (show : Bool) (bytes : List ℕ) → IsSection (report_said name show bytes)
+report_is_section : (name : List ℕ) (manner : Manner) (bytes : List ℕ) → IsSection (report_said name manner bytes)
 unfolding report_said
-report_is_section name show bytes = (
+report_is_section name manner bytes = (
   refl,
-  all_behind IsInside (flat_map (entry_said show) (entries_of bytes)) (summary_said (all_counts (entries_of bytes)) ∷ []) (entries_inside show (entries_of bytes))
-      (summary_inside (all_counts (entries_of bytes)), tt),
+  all_behind IsInside (flat_map (entry_said manner) (entries_of bytes)) (summary_said (all_counts manner.pick (entries_of bytes)) ∷ []) (entries_inside manner (entries_of bytes))
+      (summary_inside (all_counts manner.pick (entries_of bytes)), tt),
 )
 
 -- ---- the reports of several files
 
-abbrev pub said_of : Bool → List ℕ × List ℕ → List (List ℕ)
-said_of show (name, bytes) = report_said name show bytes
+abbrev pub said_of : Manner → List ℕ × List ℕ → List (List ℕ)
+said_of manner (name, bytes) = report_said name manner bytes
 
 abbrev KnownFiles : List (List ℕ × List ℕ) → Type 0
 KnownFiles files = AllByRecursion (λ file. IsReportable file.1) files
 
-are_lines : (show : Bool) (files : List (List ℕ × List ℕ)) → as_lines (flat_map (said_of show) files) ≡ flat_map (report_of show) files
-are_lines show [] = refl
-are_lines show ((name, bytes) ∷ files) =
-    lines_behind (report_said name show bytes) (flat_map (said_of show) files)
-    ∙ ap (λ (l : List ℕ). l ++ as_lines (flat_map (said_of show) files)) (report_is_lines name show bytes)
-    ∙ ap (λ (l : List ℕ). check_text name show bytes ++ l) (are_lines show files)
+are_lines : (manner : Manner) (files : List (List ℕ × List ℕ)) → as_lines (flat_map (said_of manner) files) ≡ flat_map (report_of manner) files
+are_lines manner [] = refl
+are_lines manner ((name, bytes) ∷ files) =
+    lines_behind (report_said name manner bytes) (flat_map (said_of manner) files)
+    ∙ ap (λ (l : List ℕ). l ++ as_lines (flat_map (said_of manner) files)) (report_is_lines name manner bytes)
+    ∙ ap (λ (l : List ℕ). check_text name manner bytes ++ l) (are_lines manner files)
 
-are_one_line : (show : Bool) (files : List (List ℕ × List ℕ)) → KnownFiles files → AllByRecursion IsOneLine (flat_map (said_of show) files)
-are_one_line show [] known = tt
-are_one_line show ((name, bytes) ∷ files) known =
-    all_behind IsOneLine (report_said name show bytes) (flat_map (said_of show) files) (report_one_line name show bytes known.0.runnable) (are_one_line show files known.1)
+are_one_line : (manner : Manner) (files : List (List ℕ × List ℕ)) → KnownFiles files → AllByRecursion IsOneLine (flat_map (said_of manner) files)
+are_one_line manner [] known = tt
+are_one_line manner ((name, bytes) ∷ files) known =
+    all_behind IsOneLine (report_said name manner bytes) (flat_map (said_of manner) files) (report_one_line name manner bytes known.0.runnable) (are_one_line manner files known.1)
 
-are_sections : (show : Bool) (files : List (List ℕ × List ℕ)) → AllByRecursion (λ file. IsSection (said_of show file)) files
-are_sections show [] = tt
-are_sections show ((name, bytes) ∷ files) = (report_is_section name show bytes, are_sections show files)
+are_sections : (manner : Manner) (files : List (List ℕ × List ℕ)) → AllByRecursion (λ file. IsSection (said_of manner file)) files
+are_sections manner [] = tt
+are_sections manner ((name, bytes) ∷ files) = (report_is_section name manner bytes, are_sections manner files)
 
 -- ---- a line of a section
 
 -- File k can be reported, and its report has the line.
-pub record IsToldOf (show : Bool) (files : List (List ℕ × List ℕ)) (k : ℕ) (line : List ℕ) : Type 0 where
+pub record IsToldOf (manner : Manner) (files : List (List ℕ × List ℕ)) (k : ℕ) (line : List ℕ) : Type 0 where
   pub file : List ℕ × List ℕ
   pub kth : slice_get files k ≡ Some file
   pub known : IsReportable file.1
-  pub has : Contains (said_of show file) line
+  pub has : Contains (said_of manner file) line
 
 -- A line of section k of what was appended is one of the report of file k.
-pub begun_section : (show : Bool) (files : List (List ℕ × List ℕ)) (old new : Option (List ℕ)) (text : List ℕ) (k : ℕ) (line : List ℕ) → AreBegun show files old new
-    → WasAppended old new text → Contains (section k text) line → IsToldOf show files k line
-begun_section show files old new text k line begun appended has =
+pub begun_section : (manner : Manner) (files : List (List ℕ × List ℕ)) (old new : Option (List ℕ)) (text : List ℕ) (k : ℕ) (line : List ℕ) → AreBegun manner files old new
+    → WasAppended old new text → Contains (section k text) line → IsToldOf manner files k line
+begun_section manner files old new text k line begun appended has =
     let reported = take begun.count files in
-    let said = flat_map (said_of show) reported in
+    let said = flat_map (said_of manner) reported in
     let (front, is_front, adds) = begun.front in
     let same : front ≡ text = same_appended old new front appended.before text adds appended.was appended.is in
-    let whole : IsFront text (as_lines said) = subst (λ (t : List ℕ). IsFront t (as_lines said)) same (subst (IsFront front) (sym (are_lines show reported)) is_front) in
-    let first = front_of_lines text said (are_one_line show reported begun.each) whole in
-    let there = section_of_front (said_of show) reported first.0 k line (are_sections show reported)
+    let whole : IsFront text (as_lines said) = subst (λ (t : List ℕ). IsFront t (as_lines said)) same (subst (IsFront front) (sym (are_lines manner reported)) is_front) in
+    let first = front_of_lines text said (are_one_line manner reported begun.each) whole in
+    let there = section_of_front (said_of manner) reported first.0 k line (are_sections manner reported)
     (subst (λ (lines : List (List ℕ)). Contains (slice_index_or (sections_of lines) k []) line) first.1 has) in
     record {
       file = there.item;

@@ -1,5 +1,5 @@
 -- No text of a report's lines has a line feed.
-use Rattle.std.proofs.Common.{◌≡◌, ℕ, Bool, List, [], ◌∷◌, ◌++◌, map, refl, codes}
+use Rattle.std.proofs.Common.{◌≡◌, ℕ, List, [], ◌∷◌, ◌++◌, map, refl, codes}
 use Rattle.std.specs.List.{AllByRecursion, flat_map}
 use Rattle.asm_image.specs.Rows.{method_row}
 use Rattle.cc_base.specs.Digits.{hex}
@@ -23,7 +23,6 @@ use Rattle.answer_lines.proofs.WholeLines.{IsOneLine, one_line}
 use Rattle.assembly_answers.specs.ReasonText.{reason_text}
 use Rattle.assembly_answers.proofs.PlainReasons.{none_in_reason}
 use Rattle.assembly_answers.proofs.PlainTexts.{none_in_printed}
-use Rattle.check_driver.specs.Analysis.{unit_verdicts}
 use Rattle.check_driver.specs.CheckText.{NotAnalysed, outcome_finding, outcome_shown, verdict_text}
 use Rattle.check_driver.specs.Findings.{finding_in}
 use Rattle.check_driver.specs.ReportText.{callee_of}
@@ -31,6 +30,7 @@ use Rattle.check_driver.specs.declared.finding.Finding.{Finding as Found}
 use Rattle.check_driver.specs.declared.finding.Finding.TheVariants as founds
 use Rattle.check_driver.proofs.LinesOf.{lines_one_line}
 use Rattle.check_driver.proofs.Reported.{entry_said, finding_said, method_said, shown_said, verdict_said, verdicts_said}
+use Rattle.unit_verdicts.specs.Picks.{Manner, Pick, verdicts_under}
 
 -- ---- what is found of a method
 
@@ -38,9 +38,9 @@ none_in_skipped : (reason : List ℕ) → line_count reason ≡ 0 → line_count
 unfolding line_count
 none_in_skipped reason none = none_behind (codes "not analysed: ") reason refl none
 
-none_in_outcome : (outcome : Outcome) → line_count (verdict_text (outcome_finding outcome)) ≡ 0
-none_in_outcome (Analysed unit) = none_in_verdict (all_proved (unit_verdicts unit))
-none_in_outcome (Skipped reason) = none_in_skipped (reason_text reason) (none_in_reason reason)
+none_in_outcome : (pick : Pick) (outcome : Outcome) → line_count (verdict_text (outcome_finding pick outcome)) ≡ 0
+none_in_outcome pick (Analysed unit) = none_in_verdict (all_proved (verdicts_under pick unit))
+none_in_outcome pick (Skipped reason) = none_in_skipped (reason_text reason) (none_in_reason reason)
 
 pub none_in_finding : (found : Found) → line_count (verdict_text (finding_in found)) ≡ 0
 none_in_finding (founds.Judged unit) = none_in_verdict (all_proved unit.found.verdicts.items)
@@ -65,10 +65,10 @@ verdicts_one_line : (callees : List CalleeInfo) (found : List Verdict) → AllBy
 verdicts_one_line callees [] are = tt
 verdicts_one_line callees (v ∷ found) are = (verdict_one_line callees v are, verdicts_one_line callees found are)
 
-said_one_line : (outcome : Outcome) → IfAnalysed outcome IsUnit → AllByRecursion IsOneLine (verdicts_said (outcome_finding outcome))
+said_one_line : (pick : Pick) (outcome : Outcome) → IfAnalysed outcome IsUnit → AllByRecursion IsOneLine (verdicts_said (outcome_finding pick outcome))
 unfolding verdicts_said
-said_one_line (Analysed unit) is = verdicts_one_line unit.callees (unit_verdicts unit) is.well_formed.callees
-said_one_line (Skipped reason) is = tt
+said_one_line pick (Analysed unit) is = verdicts_one_line unit.callees (verdicts_under pick unit) is.well_formed.callees
+said_one_line pick (Skipped reason) is = tt
 
 pub none_in_method : (token : ℕ) (name text : List ℕ) → line_count name ≡ 0 → line_count text ≡ 0 → line_count (method_said token name text) ≡ 0
 unfolding method_said line_count
@@ -84,19 +84,19 @@ all_behind P [] b all others = others
 all_behind P (x ∷ a) b all others = (all.0, all_behind P a b all.1 others)
 
 -- The lines of the methods of some rows.
-pub rows_one_line : (asm : List ℕ) (show : Bool) (rows : List ℕ)
+pub rows_one_line : (asm : List ℕ) (manner : Manner) (rows : List ℕ)
     → AllByRecursion (λ entry. IfAnalysed entry.outcome IsUnit) (map (entry_of asm) (map (method_row (metadata asm)) rows))
-    → AllByRecursion IsOneLine (flat_map (entry_said show) (map (entry_of asm) (map (method_row (metadata asm)) rows)))
+    → AllByRecursion IsOneLine (flat_map (entry_said manner) (map (entry_of asm) (map (method_row (metadata asm)) rows)))
 unfolding entry_said finding_said shown_said method_row
-rows_one_line asm show [] runnable = tt
-rows_one_line asm show (row ∷ rows) runnable =
+rows_one_line asm manner [] runnable = tt
+rows_one_line asm manner (row ∷ rows) runnable =
     let method = method_row (metadata asm) row in
-    let found = outcome_finding (outcome_of asm method) in
+    let found = outcome_finding manner.pick (outcome_of asm method) in
     let text = verdict_text found in
-    let first = one_line (method_said method.token.0 method.name text) (none_in_method method.token.0 method.name text (none_in_printed (metadata asm) row) (none_in_outcome (outcome_of asm method))) in
-    let own = all_behind IsOneLine (method_said method.token.0 method.name text ∷ verdicts_said found) (shown_said show (outcome_of asm method))
-    (first, said_one_line (outcome_of asm method) runnable.0) (lines_one_line (outcome_shown show (outcome_of asm method))) in
-    all_behind IsOneLine (entry_said show (entry_of asm method)) (flat_map (entry_said show) (map (entry_of asm) (map (method_row (metadata asm)) rows))) own (rows_one_line asm show rows runnable.1)
+    let first = one_line (method_said method.token.0 method.name text) (none_in_method method.token.0 method.name text (none_in_printed (metadata asm) row) (none_in_outcome manner.pick (outcome_of asm method))) in
+    let own = all_behind IsOneLine (method_said method.token.0 method.name text ∷ verdicts_said found) (shown_said manner (outcome_of asm method))
+    (first, said_one_line manner.pick (outcome_of asm method) runnable.0) (lines_one_line (outcome_shown manner (outcome_of asm method))) in
+    all_behind IsOneLine (entry_said manner (entry_of asm method)) (flat_map (entry_said manner) (map (entry_of asm) (map (method_row (metadata asm)) rows))) own (rows_one_line asm manner rows runnable.1)
 
 pub summary_one_line : (n : Counts) → IsOneLine (summary_said n)
 summary_one_line n = one_line (summary_said n) (none_in_summary n)

@@ -1,5 +1,5 @@
 -- What is known of the files whose reports were begun.
-use Rattle.std.proofs.Common.{◌≡◌, ℕ, zero, suc, Bool, List, [], ◌∷◌, length, take, zip, Vec, Global, Option, Some, None, is_some, unwrap_or, sym, ap, subst, ◌∙◌, arith, inl, inr, length-take, refl}
+use Rattle.std.proofs.Common.{◌≡◌, ℕ, zero, suc, false, List, [], ◌∷◌, length, take, zip, Vec, Global, Option, Some, None, unwrap_or, sym, ap, subst, ◌∙◌, arith, inl, inr, length-take, refl}
 use Rattle.std.specs.List.{AllByRecursion, flat_map}
 use Rattle.std.proofs.lemmas.Bool.{cases_lt}
 use Rattle.std.proofs.lemmas.List.{take_all}
@@ -8,6 +8,8 @@ use Rattle.asm_image.specs.Faults.{FirstBroken}
 use Rattle.cc_base.specs.Files.{Held, READ_LIMIT}
 use Rattle.cc_base.specs.Sink.{AppendsFront}
 use Rattle.check_driver.specs.Checked.{AreBegun, AreHeldBegun, IfCheck, IsReportable, held_files, report_of}
+use Rattle.check_driver.specs.Expected.{check_manner}
+use Rattle.unit_verdicts.specs.Picks.{Manner, limit_manner}
 use Rattle.check_driver.specs.Met.{AreContents, AreUnder, IsContent, bytes_read}
 use Rattle.check_driver.proofs.SeveralFiles.{begun_none}
 use Rattle.command_words.specs.Words.{check_files, file_indexes, words_at}
@@ -52,37 +54,39 @@ held_same held (name ∷ names) [] read (suc n) under contents known = absurd un
 held_same held (name ∷ names) (met ∷ others) [] (suc n) under contents known = absurd contents
 
 -- What is known of files that were read is known of what is held.
-held_begun : (told : Option Held) (show : Bool) (names : List (List ℕ)) (met : List (Option (List ℕ))) (read : List (Vec ℕ Global)) (old new : Option (List ℕ))
-    → AreUnder told names met → AreContents met read → AreBegun show (zip names (bytes_read read)) old new → AreHeldBegun told show names old new
-held_begun told show names met read old new under contents begun = λ held told_is.
+pub held_begun : (told : Option Held) (manner : Manner) (names : List (List ℕ)) (met : List (Option (List ℕ))) (read : List (Vec ℕ Global)) (old new : Option (List ℕ))
+    → AreUnder told names met → AreContents met read → AreBegun manner (zip names (bytes_read read)) old new → AreHeldBegun told names old new
+held_begun told manner names met read old new under contents begun = λ held told_is.
     let here = subst (λ (t : Option Held). AreUnder t names met) told_is under in
-    let same = held_same held names met read begun.count here contents begun.each in
-    record {
-      count = begun.count;
-      each = subst (AllByRecursion (λ file. IsReportable file.1)) same begun.each;
-      front = subst (λ (files : List (List ℕ × List ℕ)). AppendsFront old new (flat_map (report_of show) files)) same begun.front;
-    }
+    let same = held_same held names met read begun.count here contents begun.each in (
+      manner,
+      record {
+        count = begun.count;
+        each = subst (AllByRecursion (λ file. IsReportable file.1)) same begun.each;
+        front = subst (λ (files : List (List ℕ × List ℕ)). AppendsFront old new (flat_map (report_of manner) files)) same begun.front;
+      },
+    )
 
 -- The reports of a check's files were begun as far as was written, told of what is held.
 abbrev HeldBegun : Option Held → List (List ℕ) → Option (List ℕ) → Option (List ℕ) → Command → Type 0
-HeldBegun told words old new command = IfCheck command (λ check. AreHeldBegun told (is_some check.show) (words_at words (check_files check)) old new)
+HeldBegun told words old new command = IfCheck command (λ check. AreHeldBegun told (words_at words (check_files check)) old new)
 
-pub held_checked : (told : Option Held) (command : Command) (words : List (List ℕ)) (met : List (Option (List ℕ))) (read : List (Vec ℕ Global)) (old new : Option (List ℕ))
+pub held_checked : (told : Option Held) (command : Command) (words : List (List ℕ)) (met : List (Option (List ℕ))) (read : List (Vec ℕ Global)) (cache : Option (List ℕ)) (old new : Option (List ℕ))
     → AreUnder told (words_at words (file_indexes command)) met → AreContents met read
-    → IfCheck command (λ check. AreBegun (is_some check.show) (zip (words_at words (check_files check)) (bytes_read read)) old new) → HeldBegun told words old new command
-held_checked told (commands.Check check) words met read old new under contents begun =
-    held_begun told (is_some check.show) (words_at words (check_files check)) met read old new under contents begun
-held_checked told (commands.Unit file) words met read old new under contents begun = tt
-held_checked told (commands.List file) words met read old new under contents begun = tt
-held_checked told (commands.Il file method) words met read old new under contents begun = tt
-held_checked told (commands.Run run) words met read old new under contents begun = tt
-held_checked told (commands.Refute file method runs) words met read old new under contents begun = tt
-held_checked told (commands.Gen seed count) words met read old new under contents begun = tt
+    → IfCheck command (λ check. AreBegun (check_manner check cache) (zip (words_at words (file_indexes command)) (bytes_read read)) old new) → HeldBegun told words old new command
+held_checked told (commands.Check check) words met read cache old new under contents begun =
+    held_begun told (check_manner check cache) (words_at words (check_files check)) met read old new under contents begun
+held_checked told (commands.Unit file) words met read cache old new under contents begun = tt
+held_checked told (commands.List file) words met read cache old new under contents begun = tt
+held_checked told (commands.Il file method) words met read cache old new under contents begun = tt
+held_checked told (commands.Run run) words met read cache old new under contents begun = tt
+held_checked told (commands.Refute file method runs) words met read cache old new under contents begun = tt
+held_checked told (commands.Gen seed count) words met read cache old new under contents begun = tt
 
 -- None was begun where nothing was written.
 pub none_begun : (told : Option Held) (command : Command) (words : List (List ℕ)) (old : Option (List ℕ)) → HeldBegun told words old old command
 none_begun told (commands.Check check) words old =
-    λ held told_is. begun_none (is_some check.show) (held_files held (words_at words (check_files check))) old old refl
+    λ held told_is. (limit_manner false, begun_none (limit_manner false) (held_files held (words_at words (check_files check))) old old refl)
 none_begun told (commands.Unit file) words old = tt
 none_begun told (commands.List file) words old = tt
 none_begun told (commands.Il file method) words old = tt

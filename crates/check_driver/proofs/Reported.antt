@@ -1,5 +1,5 @@
 -- The report of an assembly is lines, and the lines that begin with `method` are those of its methods.
-use Rattle.std.proofs.Common.{◌≡◌, ℕ, Bool, List, [], ◌∷◌, ◌++◌, map, refl, sym, ap, ◌∙◌, append_assoc, append-nil, codes}
+use Rattle.std.proofs.Common.{◌≡◌, ℕ, List, [], ◌∷◌, ◌++◌, map, refl, sym, ap, ◌∙◌, append_assoc, append-nil, codes}
 use Rattle.std.specs.List.{flat_map}
 use Rattle.cc_base.specs.Digits.{hex}
 use Rattle.cc_base.specs.Escapes.{escaped}
@@ -16,6 +16,7 @@ use Rattle.answer_lines.proofs.SingleLines.{obligation_said, summary_ends, summa
 use Rattle.check_driver.specs.Sections.{lines_of}
 use Rattle.check_driver.proofs.ShownLines.{shown_are_lines}
 use Rattle.answer_lines.proofs.WholeLines.{as_line, as_lines}
+use Rattle.unit_verdicts.specs.Picks.{Manner}
 
 -- ---- the texts of the lines, without their line feeds
 
@@ -34,15 +35,15 @@ unfoldable pub finding_said : ℕ → List ℕ → Finding → List (List ℕ)
 finding_said token name found = method_said token name (verdict_text found) ∷ verdicts_said found
 
 -- What is shown of an invariant.
-unfoldable pub shown_said : Bool → Outcome → List (List ℕ)
-shown_said show outcome = lines_of (outcome_shown show outcome)
+unfoldable pub shown_said : Manner → Outcome → List (List ℕ)
+shown_said manner outcome = lines_of (outcome_shown manner outcome)
 
-unfoldable pub entry_said : Bool → MethodEntry → List (List ℕ)
-entry_said show entry = finding_said entry.token.0 entry.name (outcome_finding entry.outcome) ++ shown_said show entry.outcome
+unfoldable pub entry_said : Manner → MethodEntry → List (List ℕ)
+entry_said manner entry = finding_said entry.token.0 entry.name (outcome_finding manner.pick entry.outcome) ++ shown_said manner entry.outcome
 
-unfoldable pub report_said : List ℕ → Bool → List ℕ → List (List ℕ)
-report_said name show bytes =
-    (codes "assembly " ++ escaped name) ∷ (flat_map (entry_said show) (entries_of bytes) ++ summary_said (all_counts (entries_of bytes)) ∷ [])
+unfoldable pub report_said : List ℕ → Manner → List ℕ → List (List ℕ)
+report_said name manner bytes =
+    (codes "assembly " ++ escaped name) ∷ (flat_map (entry_said manner) (entries_of bytes) ++ summary_said (all_counts manner.pick (entries_of bytes)) ∷ [])
 
 -- ---- lines of lists
 
@@ -70,29 +71,29 @@ finding_is_lines : (token : ℕ) (name : List ℕ) (found : Finding) → as_line
 unfolding finding_said method_said
 finding_is_lines token name found = ap (λ (l : List ℕ). method_line token name (verdict_text found) ++ l) (said_of_finding found)
 
-entry_is_lines : (show : Bool) (entry : MethodEntry) → as_lines (entry_said show entry) ≡ entry_lines show entry
+entry_is_lines : (manner : Manner) (entry : MethodEntry) → as_lines (entry_said manner entry) ≡ entry_lines manner entry
 unfolding entry_said shown_said
-entry_is_lines show entry =
-    lines_behind (finding_said entry.token.0 entry.name (outcome_finding entry.outcome)) (shown_said show entry.outcome)
-    ∙ ap (λ (l : List ℕ). l ++ as_lines (shown_said show entry.outcome)) (finding_is_lines entry.token.0 entry.name (outcome_finding entry.outcome))
-    ∙ ap (λ (l : List ℕ). finding_lines entry.token.0 entry.name (outcome_finding entry.outcome) ++ l) (shown_are_lines show entry.outcome)
+entry_is_lines manner entry =
+    lines_behind (finding_said entry.token.0 entry.name (outcome_finding manner.pick entry.outcome)) (shown_said manner entry.outcome)
+    ∙ ap (λ (l : List ℕ). l ++ as_lines (shown_said manner entry.outcome)) (finding_is_lines entry.token.0 entry.name (outcome_finding manner.pick entry.outcome))
+    ∙ ap (λ (l : List ℕ). finding_lines entry.token.0 entry.name (outcome_finding manner.pick entry.outcome) ++ l) (shown_are_lines manner entry.outcome)
 
-entries_are_lines : (show : Bool) (entries : List MethodEntry) → as_lines (flat_map (entry_said show) entries) ≡ flat_map (entry_lines show) entries
-entries_are_lines show [] = refl
-entries_are_lines show (entry ∷ entries) =
-    lines_behind (entry_said show entry) (flat_map (entry_said show) entries)
-    ∙ ap (λ (l : List ℕ). l ++ as_lines (flat_map (entry_said show) entries)) (entry_is_lines show entry)
-    ∙ ap (λ (l : List ℕ). entry_lines show entry ++ l) (entries_are_lines show entries)
+entries_are_lines : (manner : Manner) (entries : List MethodEntry) → as_lines (flat_map (entry_said manner) entries) ≡ flat_map (entry_lines manner) entries
+entries_are_lines manner [] = refl
+entries_are_lines manner (entry ∷ entries) =
+    lines_behind (entry_said manner entry) (flat_map (entry_said manner) entries)
+    ∙ ap (λ (l : List ℕ). l ++ as_lines (flat_map (entry_said manner) entries)) (entry_is_lines manner entry)
+    ∙ ap (λ (l : List ℕ). entry_lines manner entry ++ l) (entries_are_lines manner entries)
 
 -- The lines before the last one, and the last.
 lines_and_last : (before : List (List ℕ)) (last line text : List ℕ) → as_line last ≡ line → as_lines before ≡ text → as_lines (before ++ last ∷ []) ≡ text ++ line
 lines_and_last before last line text is_line are_lines =
     lines_behind before (last ∷ []) ∙ ap (λ (l : List ℕ). as_lines before ++ l) (append-nil (as_line last)) ∙ rw (is_line, are_lines) refl
 
-pub report_is_lines : (name : List ℕ) (show : Bool) (bytes : List ℕ) → as_lines (report_said name show bytes) ≡ check_text name show bytes
+pub report_is_lines : (name : List ℕ) (manner : Manner) (bytes : List ℕ) → as_lines (report_said name manner bytes) ≡ check_text name manner bytes
 unfolding report_said check_text
-report_is_lines name show bytes =
+report_is_lines name manner bytes =
     let entries = entries_of bytes in
-    let counts = all_counts entries in
-    ap (λ (l : List ℕ). assembly_line name ++ l) (lines_and_last (flat_map (entry_said show) entries) (summary_said counts) (summary_line counts) (flat_map (entry_lines show) entries) (summary_ends counts) (entries_are_lines show entries))
-    ∙ sym (append_assoc (assembly_line name) (flat_map (entry_lines show) entries) (summary_line counts))
+    let counts = all_counts manner.pick entries in
+    ap (λ (l : List ℕ). assembly_line name ++ l) (lines_and_last (flat_map (entry_said manner) entries) (summary_said counts) (summary_line counts) (flat_map (entry_lines manner) entries) (summary_ends counts) (entries_are_lines manner entries))
+    ∙ sym (append_assoc (assembly_line name) (flat_map (entry_lines manner) entries) (summary_line counts))

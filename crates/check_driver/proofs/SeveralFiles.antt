@@ -1,5 +1,5 @@
 -- The answers for the assemblies of a check, one after another: what is written, what is begun and what is asked.
-use Rattle.std.proofs.Common.{◌≡◌, ◌⊎◌, ℕ, suc, ◌-◌, ◌<◌, ◌≤◌, max, Bool, List, [], ◌∷◌, ◌++◌, take, drop, length, get_or, zip, Vec, Global, Option, Some, None, Result, Ok, Err, if◌then◌else◌, refl, sym, ap, subst, ◌∙◌, append_assoc, append-nil, inl, inr, arith}
+use Rattle.std.proofs.Common.{◌≡◌, ◌⊎◌, ℕ, suc, ◌-◌, ◌<◌, ◌≤◌, max, List, [], ◌∷◌, ◌++◌, take, drop, length, get_or, zip, Vec, Global, Option, Some, None, Result, Ok, Err, if◌then◌else◌, refl, sym, ap, subst, ◌∙◌, append-nil, inl, inr, arith}
 use Rattle.std.specs.Prelude.{IsErrOf}
 use Rattle.std.specs.List.{flat_map}
 use Rattle.std.proofs.Math.Seq.{take-length}
@@ -20,14 +20,15 @@ use Rattle.asm_image.specs.Faults.{FirstBroken}
 use Rattle.asm_image.specs.declared.fault.AsmFault.{AsmFault}
 use Rattle.command_words.specs.Words.{word_at, words_at}
 use Rattle.unit_builder.specs.Outcomes.{entries_of}
-use Rattle.check_driver.specs.Asked.{Asks, AsksFront, check_keys, judged_keys, keys_before, unseen}
+use Rattle.check_driver.specs.Asked.{asked_for, check_keys, judged_keys, keys_before}
 use Rattle.check_driver.specs.CheckText.{all_methods_proved, check_text}
 use Rattle.check_driver.specs.Expected.{check_answer, checked_before}
 use Rattle.check_driver.specs.Checked.{AreBegun, IsReportable, report_of}
 use Rattle.check_driver.specs.Met.{bytes_read}
 use Rattle.check_driver.specs.NothingOr.{NothingOr}
-use Rattle.check_driver.proofs.Asking.{front_behind, front_more}
-use Rattle.check_driver.proofs.KeysAsked.{unseen_behind}
+use Rattle.unit_verdicts.specs.Asked.{Asks}
+use Rattle.unit_verdicts.specs.Picks.{Manner}
+use Rattle.unit_verdicts.specs.VerdictCache.{CachedUnits}
 
 abbrev Keys : Type 0
 Keys = List (List ℕ)
@@ -108,48 +109,29 @@ gives_is a b r out err same gives = subst (λ (x : Answer). Gives x r out err) (
 
 -- ---- what is begun
 
-pub begun_none : (show : Bool) (files : List (List ℕ × List ℕ)) (old new : Option (List ℕ)) → new ≡ old → AreBegun show files old new
-begun_none show files old new same = record { count = 0; each = tt; front = AppendsFront-none old new [] same }
+pub begun_none : (manner : Manner) (files : List (List ℕ × List ℕ)) (old new : Option (List ℕ)) → new ≡ old → AreBegun manner files old new
+begun_none manner files old new same = record { count = 0; each = tt; front = AppendsFront-none old new [] same }
 
 -- A front of the first report was written.
-pub begun_first : (show : Bool) (name bytes : List ℕ) (files : List (List ℕ × List ℕ)) (old new : Option (List ℕ)) → NothingOr old new (IsReportable bytes)
-    → AppendsFront old new (check_text name show bytes) → AreBegun show ((name, bytes) ∷ files) old new
-begun_first show name bytes files old new (inl same) front = begun_none show ((name, bytes) ∷ files) old new same
-begun_first show name bytes files old new (inr known) front =
-    record { count = 1; each = (known, tt); front = subst (AppendsFront old new) (sym (append-nil (check_text name show bytes))) front }
+pub begun_first : (manner : Manner) (name bytes : List ℕ) (files : List (List ℕ × List ℕ)) (old new : Option (List ℕ)) → NothingOr old new (IsReportable bytes)
+    → AppendsFront old new (check_text name manner bytes) → AreBegun manner ((name, bytes) ∷ files) old new
+begun_first manner name bytes files old new (inl same) front = begun_none manner ((name, bytes) ∷ files) old new same
+begun_first manner name bytes files old new (inr known) front =
+    record { count = 1; each = (known, tt); front = subst (AppendsFront old new) (sym (append-nil (check_text name manner bytes))) front }
 
 -- The first report was written.
-pub begun_more : (show : Bool) (name bytes : List ℕ) (files : List (List ℕ × List ℕ)) (old mid new : Option (List ℕ)) → IsReportable bytes
-    → mid ≡ appended old (check_text name show bytes) → AreBegun show files mid new → AreBegun show ((name, bytes) ∷ files) old new
-begun_more show name bytes files old mid new known whole later = record {
+pub begun_more : (manner : Manner) (name bytes : List ℕ) (files : List (List ℕ × List ℕ)) (old mid new : Option (List ℕ)) → IsReportable bytes
+    → mid ≡ appended old (check_text name manner bytes) → AreBegun manner files mid new → AreBegun manner ((name, bytes) ∷ files) old new
+begun_more manner name bytes files old mid new known whole later = record {
   count = suc later.count;
   each = (known, later.each);
-  front = AppendsFront-after old mid new (check_text name show bytes) (flat_map (report_of show) (take later.count files)) whole later.front;
+  front = AppendsFront-after old mid new (check_text name manner bytes) (flat_map (report_of manner) (take later.count files)) whole later.front;
 }
 
--- ---- what is asked
+-- ---- what is asked and judged
 
--- What is asked for the first, and then for those after it.
-pub asks_then : {X E : Type 0} (seen now first later : Keys) (r : Result X E) (old mid new : Keys) → now ≡ seen ++ unseen seen first → mid ≡ old ++ unseen seen first
-    → Asks (unseen now later) r mid new → Asks (unseen seen (first ++ later)) r old new
-asks_then {X} {E} seen now first later r old mid new is asked asks =
-    subst (λ (keys : Keys). Asks keys r old new) (sym (unseen_behind seen first later ∙ ap (λ (s : Keys). unseen seen first ++ unseen s later) (sym is))) (by r asks)
-  where
-    by : (r : Result X E) → Asks (unseen now later) r mid new → Asks (unseen seen first ++ unseen now later) r old new
-    by (Ok x) asks = record {
-      front = front_behind (unseen seen first) (unseen now later) old mid new asked asks.front;
-      whole = asks.whole ∙ ap (λ (l : Keys). l ++ unseen now later) asked ∙ append_assoc old (unseen seen first) (unseen now later);
-    }
-    by (Err e) asks = record { front = front_behind (unseen seen first) (unseen now later) old mid new asked asks.front; whole = tt }
-
--- A front of what is asked for the first is one of what is asked for all.
-pub front_then : (seen first later : Keys) (old new : Keys) → AsksFront (unseen seen first) old new → AsksFront (unseen seen (first ++ later)) old new
-front_then seen first later old new front =
-    subst (λ (keys : Keys). AsksFront keys old new) (sym (unseen_behind seen first later))
-    (front_more (unseen seen first) (unseen (seen ++ unseen seen first) later) old new front)
-
-pub asks_is : {X E : Type 0} (seen a b : Keys) (r : Result X E) (old new : Keys) → a ≡ b → Asks (unseen seen b) r old new → Asks (unseen seen a) r old new
-asks_is seen a b r old new same asks = subst (λ (keys : Keys). Asks (unseen seen keys) r old new) (sym same) asks
+pub asks_is : {X E : Type 0} (cache : CachedUnits) (a b : Keys) (r : Result X E) (old new : Keys) → a ≡ b → Asks (asked_for cache b) r old new → Asks (asked_for cache a) r old new
+asks_is cache a b r old new same asks = subst (λ (keys : Keys). Asks (asked_for cache keys) r old new) (sym same) asks
 
 -- ---- the files
 
@@ -158,9 +140,9 @@ no_file [] none = refl
 no_file (bytes ∷ read) none = absurd (omega (arith, none))
 
 -- Where no word names a file, the answer is that for none.
-pub no_answer : (show : Bool) (words : List (List ℕ)) (indexes : List ℕ) (files : List (List ℕ)) → length indexes < 1 → check_answer show (words_at words indexes) files ≡ output_answer 0 []
-no_answer show words [] files none = refl
-no_answer show words (index ∷ indexes) files none = absurd (omega (arith, none))
+pub no_answer : (manner : Manner) (words : List (List ℕ)) (indexes : List ℕ) (files : List (List ℕ)) → length indexes < 1 → check_answer manner (words_at words indexes) files ≡ output_answer 0 []
+no_answer manner words [] files none = refl
+no_answer manner words (index ∷ indexes) files none = absurd (omega (arith, none))
 
 -- What stands behind the first element.
 abbrev pub rest_of : {X : Type 0} → List X → List X
@@ -184,23 +166,23 @@ first_is words indexes read name file index bytes some some_read at is named sam
   bytes = ap bytes_read (parts_of read bytes bytes some_read (sym is)) ∙ ap (λ (b : List ℕ). b ∷ bytes_read (rest_of read)) (sym same);
 }
 
-module _ (show : Bool) (words : List (List ℕ)) (indexes : List ℕ) (read : List (Vec ℕ Global)) (name file : List ℕ) (is : IsFirst words indexes read name file) where
+module _ (manner : Manner) (words : List (List ℕ)) (indexes : List ℕ) (read : List (Vec ℕ Global)) (name file : List ℕ) (is : IsFirst words indexes read name file) where
   abbrev pub others_answer : Answer
-  others_answer = check_answer show (words_at words (rest_of indexes)) (bytes_read (rest_of read))
+  others_answer = check_answer manner (words_at words (rest_of indexes)) (bytes_read (rest_of read))
 
   answer_is : (fault : Option AsmFault) → FirstBroken file ≡ fault
-      → check_answer show (words_at words indexes) (bytes_read read) ≡ checked_before name show file fault others_answer
+      → check_answer manner (words_at words indexes) (bytes_read read) ≡ checked_before name manner file fault others_answer
   answer_is fault first =
-      ap (λ (names : List (List ℕ)). check_answer show names (bytes_read read)) is.names
-      ∙ ap (check_answer show (name ∷ words_at words (rest_of indexes))) is.bytes
-      ∙ ap (λ (found : Option AsmFault). checked_before name show file found others_answer) first
+      ap (λ (names : List (List ℕ)). check_answer manner names (bytes_read read)) is.names
+      ∙ ap (check_answer manner (name ∷ words_at words (rest_of indexes))) is.bytes
+      ∙ ap (λ (found : Option AsmFault). checked_before name manner file found others_answer) first
 
   pub answer_of_first : FirstBroken file ≡ None
-      → check_answer show (words_at words indexes) (bytes_read read) ≡ answer_then (check_text name show file) (if all_methods_proved file then 0 else 1) others_answer
+      → check_answer manner (words_at words indexes) (bytes_read read) ≡ answer_then (check_text name manner file) (if all_methods_proved manner.pick file then 0 else 1) others_answer
   answer_of_first accepted = answer_is None accepted
 
   pub answer_refused : (fault : AsmFault) → FirstBroken file ≡ Some fault
-      → check_answer show (words_at words indexes) (bytes_read read) ≡ refused_answer name (assembly_fault_text fault.cause) fault.at
+      → check_answer manner (words_at words indexes) (bytes_read read) ≡ refused_answer name (assembly_fault_text fault.cause) fault.at
   answer_refused fault first = answer_is (Some fault) first
 
   keys_are : (fault : Option AsmFault) → FirstBroken file ≡ fault → check_keys (bytes_read read) ≡ keys_before file fault (check_keys (bytes_read (rest_of read)))
@@ -213,8 +195,8 @@ module _ (show : Bool) (words : List (List ℕ)) (indexes : List ℕ) (read : Li
   no_keys fault first = keys_are (Some fault) first
 
   -- What was begun of this file and of those after it was begun of all.
-  pub begun_of_first : (old new : Option (List ℕ)) → AreBegun show ((name, file) ∷ zip (words_at words (rest_of indexes)) (bytes_read (rest_of read))) old new
-      → AreBegun show (zip (words_at words indexes) (bytes_read read)) old new
+  pub begun_of_first : (old new : Option (List ℕ)) → AreBegun manner ((name, file) ∷ zip (words_at words (rest_of indexes)) (bytes_read (rest_of read))) old new
+      → AreBegun manner (zip (words_at words indexes) (bytes_read read)) old new
   begun_of_first old new begun =
-      subst (λ (files : List (List ℕ × List ℕ)). AreBegun show files old new)
+      subst (λ (files : List (List ℕ × List ℕ)). AreBegun manner files old new)
       (sym (ap (λ (names : List (List ℕ)). zip names (bytes_read read)) is.names ∙ ap (zip (name ∷ words_at words (rest_of indexes))) is.bytes)) begun

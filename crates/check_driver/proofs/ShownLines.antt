@@ -11,11 +11,10 @@ use Rattle.unit_builder.specs.declared.entry.Outcome.{Outcome}
 use Rattle.unit_builder.specs.declared.entry.Outcome.TheVariants.{Analysed, Skipped}
 use Rattle.unit_flow.specs.FlowOf.{flow_of}
 use Rattle.unit_flow.specs.declared.unit_flow.UnitFlow.{UnitFlow}
-use Rattle.widening_engine.specs.Limits.{limit_of}
-use Rattle.check_driver.specs.Analysis.{shown_text, states_text}
 use Rattle.check_driver.specs.CheckText.{outcome_shown}
 use Rattle.check_driver.specs.Sections.{lines_of}
 use Rattle.answer_lines.proofs.WholeLines.{IsOneLine, as_lines}
+use Rattle.unit_verdicts.specs.Picks.{Manner, shown_text, states_text}
 
 -- ---- lines of a text
 
@@ -61,15 +60,18 @@ states_indented code states = by_shape (has_shape code states)
     by_shape true = indented code.unit code.graph.blocks states
     by_shape false = none
 
-shown_indented : (show : Bool) (outcome : Outcome) → AreIndented (outcome_shown show outcome)
+shown_indented : (manner : Manner) (outcome : Outcome) → AreIndented (outcome_shown manner outcome)
 unfolding shown_text
-shown_indented true (Analysed unit) = states_indented (flow_of unit) (limit_of (flow_of unit))
-shown_indented false (Analysed unit) = none
-shown_indented show (Skipped reason) = none
+shown_indented manner (Analysed unit) = by_show manner.show
+  where
+    by_show : (show : Bool) → AreIndented (if show then states_text (flow_of unit) (manner.pick unit) else [])
+    by_show true = states_indented (flow_of unit) (manner.pick unit)
+    by_show false = none
+shown_indented manner (Skipped reason) = none
 
-pub shown_are_lines : (show : Bool) (outcome : Outcome) → as_lines (lines_of (outcome_shown show outcome)) ≡ outcome_shown show outcome
-shown_are_lines show outcome = are_lines (outcome_shown show outcome) (shown_indented show outcome)
+pub shown_are_lines : (manner : Manner) (outcome : Outcome) → as_lines (lines_of (outcome_shown manner outcome)) ≡ outcome_shown manner outcome
+shown_are_lines manner outcome = are_lines (outcome_shown manner outcome) (shown_indented manner outcome)
 
 -- No line of it begins with another byte.
-pub no_shown_line : (show : Bool) (outcome : Outcome) (line : List ℕ) → get_or line 0 0 ≢ 32 → Contains (lines_of (outcome_shown show outcome)) line → ⊥
-no_shown_line show outcome line letter has = no_other (outcome_shown show outcome) line (shown_indented show outcome) letter has
+pub no_shown_line : (manner : Manner) (outcome : Outcome) (line : List ℕ) → get_or line 0 0 ≢ 32 → Contains (lines_of (outcome_shown manner outcome)) line → ⊥
+no_shown_line manner outcome line letter has = no_other (outcome_shown manner outcome) line (shown_indented manner outcome) letter has

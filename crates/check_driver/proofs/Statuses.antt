@@ -1,5 +1,5 @@
 -- No answer has a status that tells an interruption, and only words that are no command are answered by the usage.
-use Rattle.std.proofs.Common.{◌≡◌, ◌≢◌, ℕ, max, Bool, true, false, List, [], ◌∷◌, is_some, Option, Some, None, Result, Ok, Err, if◌then◌else◌, nat_le, length, refl, sym, subst, ◌∙◌, inl, inr, arith}
+use Rattle.std.proofs.Common.{◌≡◌, ◌≢◌, ℕ, max, Bool, true, false, List, [], ◌∷◌, Option, Some, None, Result, Ok, Err, if◌then◌else◌, nat_le, length, refl, sym, subst, ◌∙◌, inl, inr, arith}
 use Rattle.std.specs.Prelude.{IfOk}
 use Rattle.std.proofs.lemmas.Bool.{cases_lt}
 use Rattle.asm_image.specs.Faults.{FirstBroken}
@@ -13,16 +13,19 @@ use Rattle.method_unit.specs.declared.unit_fault.UnitFault.{UnitFault}
 use Rattle.written_assemblies.specs.GeneratedFiles.{generated_file}
 use Rattle.invariant_checker.specs.Counts.{all_proved}
 use Rattle.answer_lines.specs.Answers.{Answer}
-use Rattle.answer_lines.specs.Outcome.{GivesOrUnread, status_of}
+use Rattle.answer_lines.specs.Outcome.{GivesOrFails, status_of}
 use Rattle.answer_lines.specs.Writing.{Change}
 use Rattle.answer_lines.specs.declared.interrupt.Interrupt.{Interrupt}
 use Rattle.answer_lines.specs.declared.interrupt.Interrupt.TheVariants as interrupts
 use Rattle.answer_lines.proofs.Leaving.{IsUninterrupted}
 use Rattle.assembly_answers.proofs.Statuses.{IsOfBytes, of_few, of_il, of_list, of_refused, of_refute_file, of_run_file, plain_below}
-use Rattle.check_driver.specs.Analysis.{unit_verdicts}
+use Rattle.check_driver.specs.ReportText.{unit_verdicts}
 use Rattle.check_driver.specs.CheckText.{all_methods_proved}
-use Rattle.check_driver.specs.Expected.{bytes_answer, check_answer, checked_before, command_answer, expected, file_at, missing_or, unit_answer, unit_file_answer}
+use Rattle.check_driver.specs.CacheLeft.{GivesOrUnreplaced}
+use Rattle.check_driver.specs.CacheMet.{CallMet}
+use Rattle.check_driver.specs.Expected.{bytes_answer, check_answer, check_manner, checked_before, command_answer, expected, file_at, missing_or, unit_answer, unit_file_answer}
 use Rattle.check_driver.specs.Met.{contents, first_missing}
+use Rattle.unit_verdicts.specs.Picks.{Manner, limit_pick}
 
 of_report : (proved : Bool) → IsOfBytes (if proved then 0 else 1)
 of_report true = of_few 0 (omega arith)
@@ -49,64 +52,69 @@ of_greater a b one other =
       | inr not_less ↦ let is : a ≡ max a b = omega (arith, not_less) in subst IsOfBytes is one
     ]
 
-of_checked : (name : List ℕ) (show : Bool) (bytes : List ℕ) (fault : Option AsmFault) (others : Answer) → IsOfBytes others.status
-    → IsOfBytes (checked_before name show bytes fault others).status
-of_checked name show bytes None others of = of_greater (if all_methods_proved bytes then 0 else 1) others.status (of_report (all_methods_proved bytes)) of
-of_checked name show bytes (Some fault) others of = of_refused
+of_checked : (name : List ℕ) (manner : Manner) (bytes : List ℕ) (fault : Option AsmFault) (others : Answer) → IsOfBytes others.status
+    → IsOfBytes (checked_before name manner bytes fault others).status
+of_checked name manner bytes None others of = of_greater (if all_methods_proved manner.pick bytes then 0 else 1) others.status (of_report (all_methods_proved manner.pick bytes)) of
+of_checked name manner bytes (Some fault) others of = of_refused
 
-of_check : (show : Bool) (names files : List (List ℕ)) → IsOfBytes (check_answer show names files).status
-of_check show [] files = of_few 0 (omega arith)
-of_check show (name ∷ names) [] = of_few 0 (omega arith)
-of_check show (name ∷ names) (bytes ∷ files) =
-    of_checked name show bytes (FirstBroken bytes) (check_answer show names files) (of_check show names files)
+of_check : (manner : Manner) (names files : List (List ℕ)) → IsOfBytes (check_answer manner names files).status
+of_check manner [] files = of_few 0 (omega arith)
+of_check manner (name ∷ names) [] = of_few 0 (omega arith)
+of_check manner (name ∷ names) (bytes ∷ files) =
+    of_checked name manner bytes (FirstBroken bytes) (check_answer manner names files) (of_check manner names files)
 
-of_bytes : (command : Command) (words files : List (List ℕ)) → IsOfBytes (bytes_answer command words files).status
-of_bytes (commands.Unit file) words files = of_unit_file (word_at words file) (file_at files 0)
-of_bytes (commands.List file) words files = of_list (word_at words file) (file_at files 0) (FirstBroken (file_at files 0))
-of_bytes (commands.Il file method) words files = of_il (word_at words file) (word_at words method) (file_at files 0) (FirstBroken (file_at files 0))
-of_bytes (commands.Check check) words files = of_check (is_some check.show) (words_at words (check_files check)) files
-of_bytes (commands.Run run) words files =
+of_bytes : (command : Command) (words : List (List ℕ)) (cache : Option (List ℕ)) (files : List (List ℕ)) → IsOfBytes (bytes_answer command words cache files).status
+of_bytes (commands.Unit file) words cache files = of_unit_file (word_at words file) (file_at files 0)
+of_bytes (commands.List file) words cache files = of_list (word_at words file) (file_at files 0) (FirstBroken (file_at files 0))
+of_bytes (commands.Il file method) words cache files = of_il (word_at words file) (word_at words method) (file_at files 0) (FirstBroken (file_at files 0))
+of_bytes (commands.Check check) words cache files = of_check (check_manner check cache) (words_at words (check_files check)) files
+of_bytes (commands.Run run) words cache files =
     of_run_file (word_at words run.file) (word_at words run.method) (args_told run words) run.steps (file_at files 0) (FirstBroken (file_at files 0))
-of_bytes (commands.Refute file method runs) words files =
+of_bytes (commands.Refute file method runs) words cache files =
     of_refute_file (word_at words file) (word_at words method) runs (file_at files 0) (FirstBroken (file_at files 0))
-of_bytes (commands.Gen seed count) words files = of_report (all_methods_proved (generated_file seed count))
+of_bytes (commands.Gen seed count) words cache files = of_report (all_methods_proved limit_pick (generated_file seed count))
 
 plain_missing : (missing : Option (List ℕ)) (answer : Answer) → IsUninterrupted answer.status → IsUninterrupted (missing_or missing answer).status
 plain_missing None answer plain = plain
 plain_missing (Some name) answer plain = plain_below 3 (omega arith)
 
-plain_command : (words : List (List ℕ)) (met : List (Option (List ℕ))) (command : Option Command) → IsUninterrupted (command_answer words met command).status
+plain_command : (words : List (List ℕ)) (met : CallMet) (command : Option Command) → IsUninterrupted (command_answer words met command).status
 plain_command words met None = plain_below 2 (omega arith)
 plain_command words met (Some command) =
-    plain_missing (first_missing (words_at words (file_indexes command)) met) (bytes_answer command words (contents met)) (of_bytes command words (contents met)).plain
+    plain_missing (first_missing (words_at words (file_indexes command)) met.files) (bytes_answer command words met.cache (contents met.files))
+    (of_bytes command words met.cache (contents met.files)).plain
 
-pub plain_expected : (words : List (List ℕ)) (met : List (Option (List ℕ))) → IsUninterrupted (expected words met).status
+pub plain_expected : (words : List (List ℕ)) (met : CallMet) → IsUninterrupted (expected words met).status
 plain_expected words met = plain_command words met (command_of words)
 
 -- ---- what a status tells
 
 -- An answer to bytes never tells a file to be missing.
-pub never_missing : (command : Command) (words files : List (List ℕ)) (r : Result ℕ Interrupt) (P : Type 0) → IfOk r (λ status. status ≡ (bytes_answer command words files).status)
-    → IfOk r (λ status. status ≡ 3 → P)
-never_missing command words files (Ok status) P is = λ e. absurd ((of_bytes command words files).missing (sym is ∙ e))
-never_missing command words files (Err e) P is = tt
+pub never_missing : (command : Command) (words : List (List ℕ)) (cache : Option (List ℕ)) (files : List (List ℕ)) (r : Result ℕ Interrupt) (unreplaced P : Type 0) (out err : Change)
+    → GivesOrUnreplaced (bytes_answer command words cache files) unreplaced r out err → IfOk r (λ status. status ≡ 3 → P)
+never_missing command words cache files (Ok status) unreplaced P out err (inl (inl g)) = λ e. absurd ((of_bytes command words cache files).missing (sym g.status ∙ e))
+never_missing command words cache files (Ok status) unreplaced P out err (inl (inr (never, others))) = absurd never
+never_missing command words cache files (Ok status) unreplaced P out err (inr (failed, g)) = absurd (let e = g.interrupted in cc)
+never_missing command words cache files (Err e) unreplaced P out err gives = tt
 
 missing_usage : (missing : Option (List ℕ)) (answer : Answer) → IsOfBytes answer.status → (missing_or missing answer).status ≢ 2
 missing_usage None answer of = of.usage
 missing_usage (Some name) answer of = λ e. omega (arith, e)
 
 -- Only words that are no command are answered by the usage.
-command_usage : (words : List (List ℕ)) (met : List (Option (List ℕ))) (command : Option Command) → (command_answer words met command).status ≡ 2 → command ≡ None
+command_usage : (words : List (List ℕ)) (met : CallMet) (command : Option Command) → (command_answer words met command).status ≡ 2 → command ≡ None
 command_usage words met None e = refl
 command_usage words met (Some command) e =
-    absurd (missing_usage (first_missing (words_at words (file_indexes command)) met) (bytes_answer command words (contents met)) (of_bytes command words (contents met)) e)
+    absurd (missing_usage (first_missing (words_at words (file_indexes command)) met.files) (bytes_answer command words met.cache (contents met.files))
+    (of_bytes command words met.cache (contents met.files)) e)
 
-pub expected_usage : (words : List (List ℕ)) (met : List (Option (List ℕ))) → (expected words met).status ≡ 2 → command_of words ≡ None
+pub expected_usage : (words : List (List ℕ)) (met : CallMet) → (expected words met).status ≡ 2 → command_of words ≡ None
 expected_usage words met e = command_usage words met (command_of words) e
 
-pub usage_only : (words : List (List ℕ)) (met : List (Option (List ℕ))) (names : List (List ℕ)) (failed : Type 0) (r : Result ℕ Interrupt) (out err : Change)
-    → GivesOrUnread (expected words met) names failed r out err → status_of r ≡ 2 → command_of words ≡ None
-usage_only words met names failed (Ok status) out err (inl g) e = expected_usage words met (sym g.status ∙ e)
-usage_only words met names failed (Ok status) out err (inr (f, (k, name, lt, at, g))) e = absurd (omega (arith, g.status, e))
-usage_only words met names failed (Err interrupts.CannotWrite) out err g e = absurd (omega (arith, e))
-usage_only words met names failed (Err interrupts.NoMemory) out err g e = absurd (omega (arith, e))
+pub usage_only : (words : List (List ℕ)) (met : CallMet) (names : List (List ℕ)) (failed unreplaced : Type 0) (r : Result ℕ Interrupt) (out err : Change)
+    → GivesOrFails (expected words met) names failed unreplaced r out err → status_of r ≡ 2 → command_of words ≡ None
+usage_only words met names failed unreplaced (Ok status) out err (inl (inl g)) e = expected_usage words met (sym g.status ∙ e)
+usage_only words met names failed unreplaced (Ok status) out err (inl (inr (f, (k, name, lt, at, g)))) e = absurd (omega (arith, g.status, e))
+usage_only words met names failed unreplaced (Ok status) out err (inr (f, g)) e = absurd (let never = g.interrupted in cc)
+usage_only words met names failed unreplaced (Err interrupts.CannotWrite) out err g e = absurd (omega (arith, e))
+usage_only words met names failed unreplaced (Err interrupts.NoMemory) out err g e = absurd (omega (arith, e))

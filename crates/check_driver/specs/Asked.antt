@@ -1,7 +1,6 @@
 -- Which units a call asks its finder for. A unit is told by the bytes of its file.
-use Rattle.std.specs.Prelude.{◌≡◌, ◌≢◌, ℕ, Bool, List, [], ◌∷◌, ◌++◌, length, Option, Some, None, Result, IfOk, nat_le, if◌then◌else◌}
-use Rattle.std.specs.List.{flat_map, list_any}
-use Rattle.std.specs.Str.{bytes_eq}
+use Rattle.std.specs.Prelude.{◌≡◌, ◌≢◌, ℕ, List, [], ◌∷◌, ◌++◌, length, Option, Some, None, is_some, Result, IfOk, nat_le, if◌then◌else◌}
+use Rattle.std.specs.List.{flat_map}
 use Rattle.asm_image.specs.Faults.{FirstBroken}
 use Rattle.asm_image.specs.declared.fault.AsmFault.{AsmFault}
 use Rattle.cc_base.specs.Files.{READ_LIMIT}
@@ -15,23 +14,15 @@ use Rattle.unit_form.specs.Spelling.{unit_bytes}
 use Rattle.answer_lines.specs.declared.interrupt.Interrupt.{Interrupt}
 use Rattle.check_driver.specs.Expected.{file_at}
 use Rattle.check_driver.specs.Met.{contents, first_missing}
+use Rattle.check_driver.specs.CacheMet.{CallMet, cache_entries}
+use Rattle.result_cache.specs.Entries.{Entry}
+use Rattle.unit_verdicts.specs.Asked.{AsksFront, distinct, unseen, without_entry}
+use Rattle.unit_verdicts.specs.VerdictCache.{CachedUnits}
 use Rattle.command_words.specs.Words.{command_of, file_indexes, words_at}
+use Rattle.command_words.specs.declared.check_words.CheckWords.{CheckWords}
 use Rattle.command_words.specs.declared.command.Command.{Command}
 use Rattle.command_words.specs.declared.command.Command.TheVariants as commands
 use Rattle.written_assemblies.specs.GeneratedFiles.{generated_file}
-
--- ---- each once
-
-abbrev pub is_among : List (List ℕ) → List ℕ → Bool
-is_among seen key = list_any (λ other. bytes_eq key other) seen
-
--- Those of the keys that are not seen yet, each once, in order.
-abbrev pub unseen : List (List ℕ) → List (List ℕ) → List (List ℕ)
-unseen seen [] = []
-unseen seen (key ∷ keys) = if is_among seen key then unseen seen keys else key ∷ unseen (seen ++ key ∷ []) keys
-
-abbrev pub distinct : List (List ℕ) → List (List ℕ)
-distinct keys = unseen [] keys
 
 -- ---- the units of files
 
@@ -59,6 +50,10 @@ abbrev pub check_keys : List (List ℕ) → List (List ℕ)
 check_keys [] = []
 check_keys (bytes ∷ files) = keys_before bytes (FirstBroken bytes) (check_keys files)
 
+-- The units for which a finder is asked for these reports, where a cache has these entries: each once.
+abbrev pub check_asked : List Entry → List (List ℕ) → List (List ℕ)
+check_asked entries files = without_entry entries (distinct (check_keys files))
+
 -- For the report of a unit whose file has this first fault, or none.
 abbrev pub unit_asked : List ℕ → Option UnitFault → List (List ℕ)
 unit_asked bytes (Some fault) = []
@@ -67,44 +62,65 @@ unit_asked bytes None = unit_bytes (unit_of bytes) ∷ []
 abbrev pub unit_file_asked : List ℕ → List (List ℕ)
 unit_file_asked bytes = if nat_le READ_LIMIT (length bytes) then [] else unit_asked bytes (first_unit_fault bytes)
 
+-- ---- units that are judged one after another
+
+-- The cache once these units were judged too: those that it has not seen yet come last.
+abbrev pub with_judged : CachedUnits → List (List ℕ) → CachedUnits
+with_judged cache keys = record {
+  show = cache.show;
+  keeps = cache.keeps;
+  held = cache.held;
+  keys = cache.keys ++ unseen cache.keys keys;
+}
+
+-- The cache of a check, of which no unit was judged yet, where this is met under the name of its cache.
+abbrev pub begun_units : CheckWords → Option (List ℕ) → CachedUnits
+begun_units check cache = record {
+  show = is_some check.show;
+  keeps = is_some check.cache;
+  held = cache_entries cache;
+  keys = [];
+}
+
+-- What a finder is asked for as these units are judged.
+abbrev pub asked_for : CachedUnits → List (List ℕ) → List (List ℕ)
+asked_for cache keys = without_entry cache.held (unseen cache.keys keys)
+
 -- ---- commands
 
--- For a command and the bytes of its files, in order.
-abbrev pub bytes_asked : Command → List (List ℕ) → List (List ℕ)
-bytes_asked (commands.Unit file) files = unit_file_asked (file_at files 0)
-bytes_asked (commands.Check check) files = distinct (check_keys files)
-bytes_asked (commands.Gen seed count) files = units_asked (generated_file seed count)
-bytes_asked _ files = []
+-- For a command, what is met under the name of its cache, and the bytes of its files, in order.
+abbrev pub bytes_asked : Command → Option (List ℕ) → List (List ℕ) → List (List ℕ)
+bytes_asked (commands.Unit file) cache files = unit_file_asked (file_at files 0)
+bytes_asked (commands.Check check) cache files = check_asked (cache_entries cache) files
+bytes_asked (commands.Gen seed count) cache files = units_asked (generated_file seed count)
+bytes_asked (commands.List file) cache files = []
+bytes_asked (commands.Il file method) cache files = []
+bytes_asked (commands.Run run) cache files = []
+bytes_asked (commands.Refute file method runs) cache files = []
 
 -- Where the first file that is missing has this name, or where none is.
 abbrev pub asked_unless : Option (List ℕ) → List (List ℕ) → List (List ℕ)
 asked_unless (Some name) keys = []
 asked_unless None keys = keys
 
--- For a command, by what is met under the names of its files.
-abbrev pub files_asked : Command → List (List ℕ) → List (Option (List ℕ)) → List (List ℕ)
-files_asked command words met = asked_unless (first_missing (words_at words (file_indexes command)) met) (bytes_asked command (contents met))
+-- For a command, by what the call meets.
+abbrev pub files_asked : Command → List (List ℕ) → CallMet → List (List ℕ)
+files_asked command words met =
+    asked_unless (first_missing (words_at words (file_indexes command)) met.files)
+    (bytes_asked command met.cache (contents met.files))
 
-abbrev pub command_asked : List (List ℕ) → List (Option (List ℕ)) → Option Command → List (List ℕ)
+abbrev pub command_asked : List (List ℕ) → CallMet → Option Command → List (List ℕ)
 command_asked words met None = []
 command_asked words met (Some command) = files_asked command words met
 
--- For the words, where this is met under the names of their files.
-abbrev pub asked_by : List (List ℕ) → List (Option (List ℕ)) → List (List ℕ)
+-- For the words, by what the call meets.
+abbrev pub asked_by : List (List ℕ) → CallMet → List (List ℕ)
 asked_by words met = command_asked words met (command_of words)
 
 -- ---- what a finder was asked for
 
--- A front of these was asked.
-abbrev pub AsksFront : List (List ℕ) → List (List ℕ) → List (List ℕ) → Type 0
-AsksFront keys old new = (front : List (List ℕ)) × ((rest : List (List ℕ)) × (keys ≡ front ++ rest)) × (new ≡ old ++ front)
-
--- A call that gave this asked for these, or for a prefix of them where it was interrupted.
-pub record Asks {X E : Type 0} (keys : List (List ℕ)) (result : Result X E) (old new : List (List ℕ)) : Type 0 where
-  pub front : AsksFront keys old new
-  pub whole : IfOk result (λ _. new ≡ old ++ keys)
-
--- So did an answer, which is interrupted too where a file was not read.
+-- An answer that came asked for these, or for a prefix of them where it was interrupted. It is interrupted too where a
+-- file was not read.
 pub record AnswerAsks (keys : List (List ℕ)) (result : Result ℕ Interrupt) (old new : List (List ℕ)) : Type 0 where
   pub front : AsksFront keys old new
   pub whole : IfOk result (λ status. status ≢ 4 → new ≡ old ++ keys)

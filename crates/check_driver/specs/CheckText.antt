@@ -11,10 +11,10 @@ use Rattle.unit_builder.specs.declared.entry.MethodEntry.{MethodEntry}
 use Rattle.unit_builder.specs.declared.entry.Outcome.{Outcome}
 use Rattle.unit_builder.specs.declared.entry.Outcome.TheVariants.{Analysed, Skipped}
 use Rattle.answer_lines.specs.Counting.{counts_plus, no_counts}
-use Rattle.check_driver.specs.Analysis.{shown_text, unit_verdicts}
 use Rattle.assembly_answers.specs.ReasonText.{reason_text}
 use Rattle.answer_lines.specs.Lines.{proved_text, summary_line}
 use Rattle.check_driver.specs.ReportText.{verdict_line}
+use Rattle.unit_verdicts.specs.Picks.{Manner, Pick, shown_text, verdicts_under}
 use Rattle.answer_lines.specs.declared.lines.Counts.{Counts}
 
 -- ---- what is found of a method
@@ -24,9 +24,9 @@ pub data Finding : Type 0 where
   WithVerdicts : List CalleeInfo → List Verdict → Finding
   NotAnalysed : List ℕ → Finding
 
-abbrev pub outcome_finding : Outcome → Finding
-outcome_finding (Analysed unit) = WithVerdicts unit.callees (unit_verdicts unit)
-outcome_finding (Skipped reason) = NotAnalysed (reason_text reason)
+abbrev pub outcome_finding : Pick → Outcome → Finding
+outcome_finding pick (Analysed unit) = WithVerdicts unit.callees (verdicts_under pick unit)
+outcome_finding pick (Skipped reason) = NotAnalysed (reason_text reason)
 
 -- ---- its lines
 
@@ -47,17 +47,18 @@ abbrev pub finding_lines : ℕ → List ℕ → Finding → List ℕ
 finding_lines token name found = method_line token name (verdict_text found) ++ verdict_lines found
 
 -- What is shown of the invariant of its unit.
-abbrev pub outcome_shown : Bool → Outcome → List ℕ
-outcome_shown show (Analysed unit) = shown_text show unit
-outcome_shown show (Skipped reason) = []
+abbrev pub outcome_shown : Manner → Outcome → List ℕ
+outcome_shown manner (Analysed unit) = shown_text manner unit
+outcome_shown manner (Skipped reason) = []
 
 -- The same of each method.
-abbrev pub all_shown : Bool → List MethodEntry → List (List ℕ)
-all_shown show entries = map (λ entry. outcome_shown show entry.outcome) entries
+abbrev pub all_shown : Manner → List MethodEntry → List (List ℕ)
+all_shown manner entries = map (λ entry. outcome_shown manner entry.outcome) entries
 
-abbrev pub entry_lines : Bool → MethodEntry → List ℕ
-entry_lines show entry =
-    finding_lines entry.token.0 entry.name (outcome_finding entry.outcome) ++ outcome_shown show entry.outcome
+abbrev pub entry_lines : Manner → MethodEntry → List ℕ
+entry_lines manner entry =
+    finding_lines entry.token.0 entry.name (outcome_finding manner.pick entry.outcome)
+    ++ outcome_shown manner entry.outcome
 
 -- ---- the whole
 
@@ -82,23 +83,24 @@ abbrev pub found_counts : List Finding → Counts
 found_counts found = fold (λ counts one. counts_plus counts (counts_of one)) no_counts found
 
 -- What is found of each method.
-abbrev pub findings : List MethodEntry → List Finding
-findings entries = map (λ entry. outcome_finding entry.outcome) entries
+abbrev pub findings : Pick → List MethodEntry → List Finding
+findings pick entries = map (λ entry. outcome_finding pick entry.outcome) entries
 
-abbrev pub all_counts : List MethodEntry → Counts
-all_counts entries = found_counts (findings entries)
+abbrev pub all_counts : Pick → List MethodEntry → Counts
+all_counts pick entries = found_counts (findings pick entries)
 
 abbrev pub assembly_line : List ℕ → List ℕ
 assembly_line name = codes "assembly " ++ escaped name ++ codes "\n"
 
 -- The last line of the report of the assembly that a file is.
-abbrev pub summary_text : List ℕ → List ℕ
-summary_text bytes = summary_line (all_counts (entries_of bytes))
+abbrev pub summary_text : Pick → List ℕ → List ℕ
+summary_text pick bytes = summary_line (all_counts pick (entries_of bytes))
 
--- The report of that assembly, with the invariants of its methods or without.
-unfoldable pub check_text : List ℕ → Bool → List ℕ → List ℕ
-check_text name show bytes = assembly_line name ++ flat_map (entry_lines show) (entries_of bytes) ++ summary_text bytes
+-- The report of that assembly, made in this manner.
+unfoldable pub check_text : List ℕ → Manner → List ℕ → List ℕ
+check_text name manner bytes =
+    assembly_line name ++ flat_map (entry_lines manner) (entries_of bytes) ++ summary_text manner.pick bytes
 
 -- Each method of it is proved.
-abbrev pub all_methods_proved : List ℕ → Bool
-all_methods_proved bytes = list_all is_proved (findings (entries_of bytes))
+abbrev pub all_methods_proved : Pick → List ℕ → Bool
+all_methods_proved pick bytes = list_all is_proved (findings pick (entries_of bytes))

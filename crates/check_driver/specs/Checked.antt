@@ -1,5 +1,5 @@
 -- What is known of the assemblies of a check.
-use Rattle.std.specs.Prelude.{◌≡◌, ℕ, Bool, List, [], map, take, Option, Some, None, unwrap_or}
+use Rattle.std.specs.Prelude.{◌≡◌, ℕ, List, [], map, take, Option, Some, None, unwrap_or}
 use Rattle.std.specs.List.{AllByRecursion, flat_map}
 use Rattle.asm_image.specs.Faults.{FirstBroken}
 use Rattle.asm_image.specs.declared.method_row.MethodRow.{MethodRow}
@@ -14,6 +14,7 @@ use Rattle.invariant_checker.specs.Safety.{IsSafe}
 use Rattle.method_unit.specs.Units.{IsUnit}
 use Rattle.unit_builder.specs.Outcomes.{IfAnalysed, entries_of, outcome_of}
 use Rattle.unit_builder.specs.declared.entry.Outcome.TheVariants.{Analysed}
+use Rattle.unit_verdicts.specs.Picks.{Manner}
 
 -- The method is analysed, and its unit is safe.
 pub record IsSafeMethod (bytes : List ℕ) (method : MethodRow) : Type 0 where
@@ -32,23 +33,24 @@ pub record IsReportable (bytes : List ℕ) : Type 0 where
 
 -- ---- the files of a check, each with its name
 
-abbrev pub report_of : Bool → List ℕ × List ℕ → List ℕ
-report_of show (name, bytes) = check_text name show bytes
+abbrev pub report_of : Manner → List ℕ × List ℕ → List ℕ
+report_of manner (name, bytes) = check_text name manner bytes
 
--- The reports of so many of these files were begun: what was appended to a sink is a front of these reports, one after
--- another, and each of the files is an assembly that can be reported.
-pub record AreBegun (show : Bool) (files : List (List ℕ × List ℕ)) (old new : Option (List ℕ)) : Type 0 where
+-- The reports of so many of these files, made in this manner, were begun: what was appended to a sink is a front of
+-- these reports, one after another, and each of the files is an assembly that can be reported.
+pub record AreBegun (manner : Manner) (files : List (List ℕ × List ℕ)) (old new : Option (List ℕ)) : Type 0 where
   pub count : ℕ
   pub each : AllByRecursion (λ file. IsReportable file.1) (take count files)
-  pub front : AppendsFront old new (flat_map (report_of show) (take count files))
+  pub front : AppendsFront old new (flat_map (report_of manner) (take count files))
 
 -- What is held under these names, each with its name.
 abbrev pub held_files : Held → List (List ℕ) → List (List ℕ × List ℕ)
 held_files held names = map (λ name. (name, unwrap_or (held name) [])) names
 
--- The same of what is held under the names, where that is told.
-abbrev pub AreHeldBegun : Option Held → Bool → List (List ℕ) → Option (List ℕ) → Option (List ℕ) → Type 0
-AreHeldBegun told show names old new = (held : Held) → told ≡ Some held → AreBegun show (held_files held names) old new
+-- The same of what is held under the names, where that is told: so many reports were begun, in some manner.
+abbrev pub AreHeldBegun : Option Held → List (List ℕ) → Option (List ℕ) → Option (List ℕ) → Type 0
+AreHeldBegun told names old new =
+    (held : Held) → told ≡ Some held → (manner : Manner) × AreBegun manner (held_files held names) old new
 
 -- This holds of the words of a check, where the command is one.
 abbrev pub IfCheck : Command → (CheckWords → Type 0) → Type 0

@@ -1,5 +1,5 @@
 -- What a call of the program gives where nothing interrupts it.
-use Rattle.std.specs.Prelude.{ℕ, Bool, List, [], ◌∷◌, ◌++◌, length, max, Option, Some, None, is_some, nat_le, if◌then◌else◌, codes, slice_index_or}
+use Rattle.std.specs.Prelude.{ℕ, List, [], ◌∷◌, ◌++◌, length, max, Option, Some, None, is_some, nat_le, if◌then◌else◌, codes, slice_index_or}
 use Rattle.asm_image.specs.Faults.{FirstBroken}
 use Rattle.asm_image.specs.declared.fault.AsmFault.{AsmFault}
 use Rattle.cc_base.specs.Files.{READ_LIMIT}
@@ -10,15 +10,19 @@ use Rattle.method_unit.specs.UnitFile.{first_unit_fault, unit_of}
 use Rattle.method_unit.specs.declared.unit_fault.UnitFault.{UnitFault}
 use Rattle.invariant_checker.specs.Counts.{all_proved}
 use Rattle.answer_lines.specs.Answers.{Answer, USAGE, missing_line, error_answer, output_answer, refused_answer}
-use Rattle.check_driver.specs.Analysis.{unit_verdicts}
+use Rattle.answer_lines.specs.Outcome.{after_line}
 use Rattle.check_driver.specs.CheckText.{all_methods_proved, check_text, summary_text}
 use Rattle.assembly_answers.specs.Answers.{il_answer, list_answer, refute_file_answer, run_file_answer}
 use Rattle.assembly_answers.specs.FaultText.{unit_fault_text, assembly_fault_text}
+use Rattle.check_driver.specs.CacheMet.{CallMet, cache_entries, cache_refusal, command_cache}
 use Rattle.check_driver.specs.Met.{first_missing, contents}
-use Rattle.check_driver.specs.ReportText.{unit_report}
+use Rattle.check_driver.specs.ReportText.{unit_report, unit_verdicts}
 use Rattle.command_words.specs.Words.{args_told, check_files, command_of, file_indexes, word_at, words_at}
+use Rattle.command_words.specs.declared.check_words.CheckWords.{CheckWords}
 use Rattle.command_words.specs.declared.command.Command.{Command}
 use Rattle.command_words.specs.declared.command.Command.TheVariants as commands
+use Rattle.unit_verdicts.specs.Picks.{Manner, limit_pick}
+use Rattle.unit_verdicts.specs.VerdictCache.{manner_under}
 use Rattle.written_assemblies.specs.GeneratedFiles.{generated_file}
 
 abbrev pub report_answer : MethodUnit → Answer
@@ -35,24 +39,29 @@ unit_file_answer name bytes =
     if nat_le READ_LIMIT (length bytes) then refused_answer name (codes "file too large") MAX_FILE_BYTES
     else unit_answer name bytes (first_unit_fault bytes)
 
--- The answer to a check whose first assembly has this name and these bytes, which have this first fault or none; the last
--- is the answer for the assemblies after it. One that is refused ends the answer.
-abbrev pub checked_before : List ℕ → Bool → List ℕ → Option AsmFault → Answer → Answer
-checked_before name show bytes (Some fault) others = refused_answer name (assembly_fault_text fault.cause) fault.at
-checked_before name show bytes None others = record {
-  out = check_text name show bytes ++ others.out;
+-- The answer to a check whose first assembly has this name and these bytes, which have this first fault or none; the
+-- last is the answer for the assemblies after it. One that is refused ends the answer.
+abbrev pub checked_before : List ℕ → Manner → List ℕ → Option AsmFault → Answer → Answer
+checked_before name manner bytes (Some fault) others = refused_answer name (assembly_fault_text fault.cause) fault.at
+checked_before name manner bytes None others = record {
+  out = check_text name manner bytes ++ others.out;
   err = others.err;
-  status = max (if all_methods_proved bytes then 0 else 1) others.status;
+  status = max (if all_methods_proved manner.pick bytes then 0 else 1) others.status;
 }
 
--- The answer to `check FILE..`, with `--show` or without, for the names of the files and their bytes.
-abbrev pub check_answer : Bool → List (List ℕ) → List (List ℕ) → Answer
-check_answer show (name ∷ names) (bytes ∷ files) = checked_before name show bytes (FirstBroken bytes) (check_answer show names files)
-check_answer show _ _ = output_answer 0 []
+-- The answer to `check FILE..` for the names of the files and their bytes, where the reports are made in this manner.
+abbrev pub check_answer : Manner → List (List ℕ) → List (List ℕ) → Answer
+check_answer manner (name ∷ names) (bytes ∷ files) =
+    checked_before name manner bytes (FirstBroken bytes) (check_answer manner names files)
+check_answer manner _ _ = output_answer 0 []
+
+-- The manner in which a check makes its reports, by what is met under the name of its cache.
+abbrev pub check_manner : CheckWords → Option (List ℕ) → Manner
+check_manner check cache = manner_under (is_some check.show) (cache_entries cache)
 
 -- The answer to `gen SEED COUNT` for the bytes of the file that is generated: the summary alone.
 abbrev pub gen_answer : List ℕ → Answer
-gen_answer bytes = output_answer (if all_methods_proved bytes then 0 else 1) (summary_text bytes)
+gen_answer bytes = output_answer (if all_methods_proved limit_pick bytes then 0 else 1) (summary_text limit_pick bytes)
 
 -- ---- commands
 
@@ -60,33 +69,37 @@ gen_answer bytes = output_answer (if all_methods_proved bytes then 0 else 1) (su
 abbrev pub file_at : List (List ℕ) → ℕ → List ℕ
 file_at files index = slice_index_or files index []
 
--- The answer to a command of these words for the bytes of its files, in order.
-abbrev pub bytes_answer : Command → List (List ℕ) → List (List ℕ) → Answer
-bytes_answer (commands.Unit file) words files = unit_file_answer (word_at words file) (file_at files 0)
-bytes_answer (commands.List file) words files = list_answer (word_at words file) (file_at files 0) (FirstBroken (file_at files 0))
-bytes_answer (commands.Il file method) words files =
+-- The answer to a command of these words for what is met under the name of its cache, and for the bytes of its files,
+-- in order.
+abbrev pub bytes_answer : Command → List (List ℕ) → Option (List ℕ) → List (List ℕ) → Answer
+bytes_answer (commands.Unit file) words cache files = unit_file_answer (word_at words file) (file_at files 0)
+bytes_answer (commands.List file) words cache files = list_answer (word_at words file) (file_at files 0) (FirstBroken (file_at files 0))
+bytes_answer (commands.Il file method) words cache files =
     il_answer (word_at words file) (word_at words method) (file_at files 0) (FirstBroken (file_at files 0))
-bytes_answer (commands.Check check) words files = check_answer (is_some check.show) (words_at words (check_files check)) files
-bytes_answer (commands.Run run) words files =
+bytes_answer (commands.Check check) words cache files =
+    after_line (cache_refusal (command_cache words (commands.Check check)) cache)
+    (check_answer (check_manner check cache) (words_at words (check_files check)) files)
+bytes_answer (commands.Run run) words cache files =
     run_file_answer (word_at words run.file) (word_at words run.method) (args_told run words) run.steps (file_at files 0) (FirstBroken (file_at files 0))
-bytes_answer (commands.Refute file method runs) words files =
+bytes_answer (commands.Refute file method runs) words cache files =
     refute_file_answer (word_at words file) (word_at words method) runs (file_at files 0) (FirstBroken (file_at files 0))
-bytes_answer (commands.Gen seed count) words files = gen_answer (generated_file seed count)
+bytes_answer (commands.Gen seed count) words cache files = gen_answer (generated_file seed count)
 
 -- The answer where the first file that is missing has this name, or where none is.
 abbrev pub missing_or : Option (List ℕ) → Answer → Answer
 missing_or (Some name) answer = error_answer 3 (missing_line name)
 missing_or None answer = answer
 
--- The answer to a command, by what is met under the names of its files.
-abbrev pub files_answer : Command → List (List ℕ) → List (Option (List ℕ)) → Answer
+-- The answer to a command, by what the call meets.
+abbrev pub files_answer : Command → List (List ℕ) → CallMet → Answer
 files_answer command words met =
-    missing_or (first_missing (words_at words (file_indexes command)) met) (bytes_answer command words (contents met))
+    missing_or (first_missing (words_at words (file_indexes command)) met.files)
+    (bytes_answer command words met.cache (contents met.files))
 
-abbrev pub command_answer : List (List ℕ) → List (Option (List ℕ)) → Option Command → Answer
+abbrev pub command_answer : List (List ℕ) → CallMet → Option Command → Answer
 command_answer words met None = error_answer 2 USAGE
 command_answer words met (Some command) = files_answer command words met
 
--- The answer to the words, where this is met under the names of their files.
-abbrev pub expected : List (List ℕ) → List (Option (List ℕ)) → Answer
+-- The answer to the words, by what the call meets.
+abbrev pub expected : List (List ℕ) → CallMet → Answer
 expected words met = command_answer words met (command_of words)

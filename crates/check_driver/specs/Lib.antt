@@ -1,11 +1,14 @@
 pub mod Met
-pub mod Analysis
+pub mod CacheText
+pub mod CacheMet
+pub mod CallRead
 pub mod ReportText
 pub mod CheckText
 pub mod Findings
 pub mod Expected
 pub mod Asked
-pub mod VerdictCache
+pub mod CacheLeft
+pub mod HonestCaches
 pub mod Checked
 pub mod Sections
 pub mod Headline

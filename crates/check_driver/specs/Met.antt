@@ -57,3 +57,15 @@ Reads words indexes met missed failed (Err (unread.Missing index)) =
     missed × Contains indexes index × (first_missing (words_at words indexes) met ≡ Some (word_at words index))
 Reads words indexes met missed failed (Err (unread.Failed index)) = failed × Contains indexes index
 Reads words indexes met missed failed (Err unread.NoMemory) = Unit {0}
+
+-- This is what is met under the name of a cache, whole or as a read cuts it. Both may be missing.
+abbrev pub IsCacheContent : Option (List ℕ) → Option (Vec ℕ Global) → Type 0
+IsCacheContent under None = under ≡ None
+IsCacheContent under (Some bytes) = IsContent under bytes.items
+
+-- A read of the cache that the word at this index names, which met this: `failed` says that a device refused a read.
+abbrev pub ReadsCache : ℕ → Option (List ℕ) → Type 0 → Result (Option (Vec ℕ Global)) Unread → Type 0
+ReadsCache index under failed (Ok read) = IsCacheContent under read
+ReadsCache index under failed (Err (unread.Missing at)) = ⊥
+ReadsCache index under failed (Err (unread.Failed at)) = failed × (at ≡ index)
+ReadsCache index under failed (Err unread.NoMemory) = Unit {0}

@@ -9,7 +9,7 @@ use Rattle.cil_model.specs.declared.unit.CalleeInfo.{CalleeInfo}
 use Rattle.cil_model.specs.declared.unit.Unit.{Unit as MethodUnit}
 use Rattle.invariant_checker.specs.Counts.{all_proved, proved_count}
 use Rattle.invariant_checker.specs.declared.verdict.Verdict.{Verdict}
-use Rattle.check_driver.specs.Analysis.{unit_verdicts}
+use Rattle.unit_verdicts.specs.Picks.{limit_pick, verdicts_under}
 
 -- The one of these callees that a number names.
 abbrev pub callee_of : List CalleeInfo → Option ℕ → Option CalleeInfo
@@ -29,6 +29,10 @@ unit_counts found = record {
   obligations = length found;
   proved_obligations = proved_count found;
 }
+
+-- The verdicts on the obligations of a unit under what a finder answers.
+abbrev pub unit_verdicts : MethodUnit → List Verdict
+unit_verdicts unit = verdicts_under limit_pick unit
 
 -- The report of a unit: its verdict, those of its obligations, and the summary.
 unfoldable pub unit_report : MethodUnit → List ℕ

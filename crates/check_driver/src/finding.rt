@@ -1,22 +1,24 @@
 //! What is found of the methods of an assembly.
 
-ghost use Rattle.std.specs.Prelude.{◌≡◌, ◌++◌, ◌<◌, ◌≤◌, All, IfOk, OnOk, length};
+ghost use Rattle.std.specs.Prelude.{◌≡◌, ◌++◌, IfOk, OnOk};
 ghost use Rattle.assembly_answers.specs.ReasonText.{reason_text};
-ghost use Rattle.check_driver.specs.Asked.{Asks, outcome_key, unseen};
+ghost use Rattle.check_driver.specs.Asked.{asked_for, outcome_key, with_judged};
 ghost use Rattle.check_driver.specs.CheckText.{NotAnalysed, counts_of, is_proved, outcome_finding, outcome_shown, verdict_text};
 ghost use Rattle.answer_lines.specs.Counting.{AreBelow};
 ghost use Rattle.method_unit.specs.Units.{IsUnit};
 ghost use Rattle.unit_builder.specs.Outcomes.{IfAnalysed};
 ghost use Rattle.check_driver.specs.Findings.{IsWithin, callees_in, finding_in, shown_in, verdicts_in};
+ghost use Rattle.unit_verdicts.specs.Asked.{Asks};
+ghost use Rattle.unit_verdicts.specs.Picks.{pick_of};
+ghost use Rattle.unit_verdicts.specs.VerdictCache.{manner_of};
 
-use crate::analysis::JudgedUnit;
-use crate::verdict_cache::VerdictCache;
 use answer_lines::{Counts, proved_text};
 use assembly_answers::append_reason;
 use cil_model::CalleeInfo;
 use invariant_checker::{Verdict, all_proved, proved_count};
 use std::alloc::{AllocError, Global};
 use unit_builder::{Outcome, Reason};
+use unit_verdicts::{JudgedUnit, VerdictCache};
 use widening_engine::Finder;
 
 /// Appends that a method is not analysed for this reason. An error may leave a part of the text.
@@ -48,12 +50,11 @@ impl Finding {
         finder: &mut D,
     ) -> Result<Finding, AllocError>
         requires { IfAnalysed outcome IsUnit }
-        ensures value { IfOk result (λ found. finding_in found ≡ outcome_finding outcome) }
-        ensures shown { IfOk result (λ found. shown_in found ≡ outcome_shown cache.old.show outcome) }
+        ensures value { IfOk result (λ found. finding_in found ≡ outcome_finding (pick_of cache.old.held) outcome) }
+        ensures shown { IfOk result (λ found. shown_in found ≡ outcome_shown (manner_of cache.old) outcome) }
         ensures within { IfOk result IsWithin }
-        ensures show { cache.new.show ≡ cache.old.show }
-        ensures keys { OnOk result (cache.new.keys ≡ cache.old.keys ++ unseen cache.old.keys (outcome_key outcome)) }
-        ensures asked { Asks (unseen cache.old.keys (outcome_key outcome)) result (D.asked finder.old) (D.asked finder.new) }
+        ensures cache { OnOk result (cache.new ≡ with_judged cache.old (outcome_key outcome)) }
+        ensures asked { Asks (asked_for cache.old (outcome_key outcome)) result (D.asked finder.old) (D.asked finder.new) }
     {
         match outcome {
             Outcome::Skipped(reason) => Ok(Finding::Skipped(reason)),

@@ -2,7 +2,7 @@
 
 #![tactic(auto, using(cc_base::proofs::SinkLemmas::sinks, cc_base::proofs::CountLemmas::counts, answer_lines::proofs::LineLemmas::puts_none))]
 
-ghost use Rattle.std.specs.Prelude.{◌≡◌, ◌⊎◌, ◌<◌, ◌≤◌, All, Contains, List, ℕ, is_some, length, Option, Some, IfOk, IfSome, None, zip};
+ghost use Rattle.std.specs.Prelude.{◌≡◌, ◌≢◌, ◌⊎◌, ◌++◌, ◌<◌, ◌≤◌, All, Contains, List, ℕ, length, option_to_list, Option, Some, IfOk, IfSome, None, zip};
 ghost use Rattle.asm_image.specs.Faults.{FirstBroken};
 ghost use Rattle.asm_image.specs.Rows.{methods_of};
 ghost use Rattle.asm_image.specs.declared.method_row.MethodRow.{MethodRow};
@@ -10,25 +10,30 @@ ghost use Rattle.cc_base.specs.Counts.{Rose, Kept};
 ghost use Rattle.cc_base.specs.Files.{Held};
 ghost use Rattle.cc_base.specs.Sink.{AppendsFront};
 ghost use Rattle.cc_base.specs.declared.token.Token.{Token};
-ghost use Rattle.check_driver.specs.Asked.{AnswerAsks, Asks, LeavesAsked, asked_by, bytes_asked, files_asked};
+ghost use Rattle.check_driver.specs.Asked.{AnswerAsks, LeavesAsked, asked_by, bytes_asked, files_asked};
 ghost use Rattle.cil_model.specs.Runs.{Safe};
+ghost use Rattle.check_driver.specs.CacheLeft.{AnswerLeaves, GivesOrUnreplaced, IfNamed, LeavesFiles, bytes_left, files_left, left_by};
+ghost use Rattle.check_driver.specs.CacheMet.{CallMet, IsMet, cache_entries, command_cache, met_of, without_cache};
+ghost use Rattle.check_driver.specs.CallRead.{IsCalled, cache_of, files_of, names_of};
 ghost use Rattle.check_driver.specs.Checked.{AreBegun, AreHeldBegun, IfCheck, IsSafeMethod};
 ghost use Rattle.assembly_answers.specs.Answers.{run_file_answer};
-ghost use Rattle.check_driver.specs.Expected.{bytes_answer, expected, file_at, files_answer};
-ghost use Rattle.check_driver.specs.Met.{AreUnder, bytes_read};
-ghost use Rattle.answer_lines.specs.Outcome.{Gives, GivesOrUnread, Leaves, last_line, status_of};
+ghost use Rattle.check_driver.specs.Expected.{bytes_answer, check_manner, expected, file_at, files_answer};
+ghost use Rattle.answer_lines.specs.Outcome.{Gives, GivesOrFails, Leaves, last_line, status_of};
 ghost use Rattle.check_driver.specs.Headline.{BeginsItsWorld, IsAssemblyOf, RunsKeepArrays, TellAllProved, WasAppended};
+ghost use Rattle.check_driver.specs.HonestCaches.{AlikeWhereHonest, AsksWithoutCache, HonestWhereHonest, IsCacheHonest, WritesAs};
 ghost use Rattle.check_driver.specs.NothingOr.{NothingOr};
 ghost use Rattle.check_driver.specs.ProvedUnit.{AreSpelled, AsksForUnit, IfUnit, IsHeldSpelled, PrintsProvedUnit, SpellSafeUnit};
 ghost use Rattle.check_driver.specs.Refuted.{AsksToRefute, PrintsRefuted};
 ghost use Rattle.check_driver.specs.Sections.{HasProvedLine, section};
-ghost use Rattle.command_words.specs.Words.{HasArguments, IfGen, IfRun, args_told, check_files, command_of, file_indexes, file_names, used_indexes, word_at, words_at, words_bytes};
+ghost use Rattle.command_words.specs.Words.{HasArguments, IfGen, IfRun, args_told, cache_name, check_files, command_of, file_indexes, file_names, read_names, used_indexes, word_at, words_at, words_bytes};
 ghost use Rattle.answer_lines.specs.Writing.{change_of};
 ghost use Rattle.unit_builder.specs.WorldOf.{world_of};
+ghost use Rattle.unit_verdicts.specs.Asked.{Asks};
 
 use crate::check_answer::answer_check;
 use crate::gen_answer::answer_gen;
-use crate::reading::{Unread, read_files};
+use crate::inputs::{CallFiles, read_inputs};
+use crate::reading::Unread;
 use crate::unit_answer::answer_unit_file;
 use answer_lines::{
     Interrupt, NO_MEMORY, UNWRITTEN, USAGE, answer_error, answer_missing, answer_unread,
@@ -76,55 +81,60 @@ fn answer_run_words<O: Sink, E: Sink>(
     answer_run(alloc, name, method, given, bytes, out, err)
 }
 
-/// Answers a command for what was read of its files, of each at most `READ_LIMIT` bytes. The words at these indexes name
-/// them.
-fn answer_bytes<O: Sink, E: Sink, D: Finder>(
+/// Answers a command for what was read of its files, of each at most `READ_LIMIT` bytes.
+#[tactic(auto, using(crate::proofs::CheckParts::other_answers))]
+fn answer_bytes<F: Files, O: Sink, E: Sink, D: Finder>(
     alloc: Global,
     command: Command,
-    words: &[String],
-    indexes: &[u32],
-    read: &[Vec<u8>],
+    given: &CallFiles<'_>,
+    files: &mut F,
     out: &mut O,
     err: &mut E,
     finder: &mut D,
 ) -> Result<u8, Interrupt>
-    requires words { All (λ index. index < length words.now) (used_indexes command) }
-    requires files { indexes.now ≡ file_indexes command }
-    requires read { length read.now ≡ length (file_indexes command) }
-    requires arguments { IfRun command (λ run. HasArguments run (words_bytes words.now)) }
+    requires called { IsCalled command given.now }
+    requires arguments { IfRun command (λ run. HasArguments run (words_bytes given.now.words.now)) }
     requires few { IfGen command (λ seed count. count ≤ 10000) }
-    ensures answer { Gives (bytes_answer command (words_bytes words.now) (bytes_read read.now)) result
+    ensures answer { let words = words_bytes given.now.words.now in
+        GivesOrUnreplaced (bytes_answer command words (cache_of given.now) (files_of given.now))
+        (IfNamed (command_cache words command) (Rose (F.faults files.old) (F.faults files.new))) result
         (change_of O.written O.puts O.faults out.old out.new) (change_of E.written E.puts E.faults err.old err.new) }
     ensures begun { IfCheck command (λ check.
-        AreBegun (is_some check.show) (zip (words_at (words_bytes words.now) (check_files check)) (bytes_read read.now)) (O.written out.old) (O.written out.new)) }
-    ensures asked { Asks (bytes_asked command (bytes_read read.now)) result (D.asked finder.old) (D.asked finder.new) }
-    ensures spelled { NothingOr (O.written out.old) (O.written out.new) (IfUnit command (λ _. AreSpelled (file_at (bytes_read read.now) 0))) }
+        AreBegun (check_manner check (cache_of given.now)) (zip (names_of given.now) (files_of given.now))
+        (O.written out.old) (O.written out.new)) }
+    ensures asked { Asks (bytes_asked command (cache_of given.now) (files_of given.now)) result
+        (D.asked finder.old) (D.asked finder.new) }
+    ensures spelled { NothingOr (O.written out.old) (O.written out.new) (IfUnit command (λ _. AreSpelled (file_at (files_of given.now) 0))) }
+    ensures left { let words = words_bytes given.now.words.now in
+        AnswerLeaves (bytes_left command words (cache_of given.now) (files_of given.now))
+        (bytes_answer command words (cache_of given.now) (files_of given.now)).out result
+        (change_of O.written O.puts O.faults out.old out.new) (F.held files.old) (F.held files.new) }
+    ensures alike { let words = words_bytes given.now.words.now in
+        AlikeWhereHonest (cache_entries (cache_of given.now))
+        (bytes_answer command words (cache_of given.now) (files_of given.now))
+        (bytes_answer command words None (files_of given.now)) result }
+    ensures honest { HonestWhereHonest (command_cache (words_bytes given.now.words.now) command)
+        (cache_entries (cache_of given.now)) (F.held files.old) (F.held files.new) }
 {
+    let words = given.words;
     match command {
         Command::Unit(file) => {
-            answer_unit_file(
-                alloc,
-                word_at(words, file).as_bytes(),
-                &read[0],
-                out,
-                err,
-                finder,
-            )
+            let name = word_at(words, file).as_bytes();
+            answer_unit_file(alloc, name, &given.read[0], out, err, finder)
         }
         Command::List(file) => {
-            answer_list(alloc, word_at(words, file).as_bytes(), &read[0], out, err)
+            let name = word_at(words, file).as_bytes();
+            answer_list(alloc, name, &given.read[0], out, err)
         }
         Command::Il(file, method) => {
             let (name, method) = names_at(words, file, method);
-            answer_il(alloc, name, method, &read[0], out, err)
+            answer_il(alloc, name, method, &given.read[0], out, err)
         }
-        Command::Check(check) => {
-            answer_check(alloc, words, indexes, check.shows(), read, out, err, finder)
-        }
-        Command::Run(run) => answer_run_words(alloc, run, words, &read[0], out, err),
+        Command::Check(check) => answer_check(alloc, check, given, files, out, err, finder),
+        Command::Run(run) => answer_run_words(alloc, run, words, &given.read[0], out, err),
         Command::Refute { file, method, runs } => {
             let (name, method) = names_at(words, file, method);
-            answer_refute(alloc, name, method, runs, &read[0], out, err)
+            answer_refute(alloc, name, method, runs, &given.read[0], out, err)
         }
         Command::Gen(seed, count) => answer_gen(alloc, seed, count, out, finder),
     }
@@ -145,20 +155,35 @@ fn answer_command<F: Files, O: Sink, E: Sink, D: Finder>(
     requires few { IfGen command (λ seed count. count ≤ 10000) }
     ensures answer { let given = words_bytes words.now in
         let names = words_at given (file_indexes command) in
-        (met : List (Option (List ℕ))) × AreUnder (F.held files.old) names met
-        × GivesOrUnread (files_answer command given met) names (Rose (F.faults files.old) (F.faults files.new)) result
+        let cache = command_cache given command in
+        let failed = Rose (F.faults files.old) (F.faults files.new) in
+        (met : CallMet) × IsMet (F.held files.old) names cache met
+        × GivesOrFails (files_answer command given met) (names ++ option_to_list cache) failed
+        (IfNamed cache failed) result
         (change_of O.written O.puts O.faults out.old out.new) (change_of E.written E.puts E.faults err.old err.new)
-        × AnswerAsks (files_asked command given met) result (D.asked finder.old) (D.asked finder.new) }
+        × AnswerAsks (files_asked command given met) result (D.asked finder.old) (D.asked finder.new)
+        × AnswerLeaves (files_left command given met) (files_answer command given met).out result
+        (change_of O.written O.puts O.faults out.old out.new) (F.held files.old) (F.held files.new)
+        × AlikeWhereHonest (cache_entries met.cache) (files_answer command given met)
+        (files_answer command given (without_cache met)) result
+        × HonestWhereHonest cache (cache_entries met.cache) (F.held files.old) (F.held files.new) }
     ensures missing { IfOk result (λ status. status ≡ 3 → Rose (F.missed files.old) (F.missed files.new)) }
     ensures begun { IfCheck command (λ check.
-        AreHeldBegun (F.held files.old) (is_some check.show) (words_at (words_bytes words.now) (check_files check)) (O.written out.old) (O.written out.new)) }
+        AreHeldBegun (F.held files.old) (words_at (words_bytes words.now) (check_files check)) (O.written out.old) (O.written out.new)) }
     ensures spelled { NothingOr (O.written out.old) (O.written out.new)
         (IfUnit command (λ file. IsHeldSpelled (F.held files.old) (word_at (words_bytes words.now) file))) }
-    ensures files { F.held files.new ≡ F.held files.old }
 {
     let indexes = command.files(alloc)?;
-    match read_files(alloc, words, &indexes, files) {
-        Ok(read) => answer_bytes(alloc, command, words, &indexes, &read, out, err, finder),
+    match read_inputs(alloc, command, words, &indexes, files) {
+        Ok(inputs) => {
+            let given = CallFiles {
+                words,
+                indexes: &indexes,
+                read: &inputs.files,
+                cache: &inputs.cache,
+            };
+            answer_bytes(alloc, command, &given, files, out, err, finder)
+        }
         Err(Unread::Missing(file)) => answer_missing(alloc, word_at(words, file).as_bytes(), err),
         Err(Unread::Failed(file)) => answer_unread(alloc, word_at(words, file).as_bytes(), err),
         Err(Unread::NoMemory) => Err(Interrupt::NoMemory),
@@ -175,19 +200,23 @@ fn answer_words<F: Files, O: Sink, E: Sink, D: Finder>(
     finder: &mut D,
 ) -> Result<u8, Interrupt>
     ensures answer { let given = words_bytes words.now in
-        (met : List (Option (List ℕ))) × AreUnder (F.held files.old) (file_names given) met
-        × GivesOrUnread (expected given met) (file_names given) (Rose (F.faults files.old) (F.faults files.new)) result
+        let failed = Rose (F.faults files.old) (F.faults files.new) in
+        (met : CallMet) × IsMet (F.held files.old) (file_names given) (cache_name given) met
+        × GivesOrFails (expected given met) (read_names given) failed (IfNamed (cache_name given) failed) result
         (change_of O.written O.puts O.faults out.old out.new) (change_of E.written E.puts E.faults err.old err.new)
-        × AnswerAsks (asked_by given met) result (D.asked finder.old) (D.asked finder.new) }
+        × AnswerAsks (asked_by given met) result (D.asked finder.old) (D.asked finder.new)
+        × AnswerLeaves (left_by given met) (expected given met).out result
+        (change_of O.written O.puts O.faults out.old out.new) (F.held files.old) (F.held files.new)
+        × AlikeWhereHonest (cache_entries met.cache) (expected given met) (expected given (without_cache met)) result
+        × HonestWhereHonest (cache_name given) (cache_entries met.cache) (F.held files.old) (F.held files.new) }
     ensures missing { IfOk result (λ status. status ≡ 3 → Rose (F.missed files.old) (F.missed files.new)) }
     ensures usage { command_of (words_bytes words.now) ≡ None → IfOk result (λ status. status ≡ 2) }
     ensures begun { let given = words_bytes words.now in
         IfSome (command_of given) (λ command. IfCheck command (λ check.
-        AreHeldBegun (F.held files.old) (is_some check.show) (words_at given (check_files check)) (O.written out.old) (O.written out.new))) }
+        AreHeldBegun (F.held files.old) (words_at given (check_files check)) (O.written out.old) (O.written out.new))) }
     ensures spelled { let given = words_bytes words.now in
         NothingOr (O.written out.old) (O.written out.new)
         (IfSome (command_of given) (λ command. IfUnit command (λ file. IsHeldSpelled (F.held files.old) (word_at given file)))) }
-    ensures files { F.held files.new ≡ F.held files.old }
 {
     match parse_words(words) {
         None => answer_error(alloc, 2, USAGE, err),
@@ -224,9 +253,10 @@ fn finish<E: Sink>(alloc: Global, answered: Result<u8, Interrupt>, err: &mut E) 
 }
 
 /// The program: answers the words, writes to the two sinks and gives the status. The finder is asked for an invariant
-/// of each unit that is judged, of equal units once.
+/// of each unit that is judged, of equal units once, and of none that the cache has.
 ///
-/// Statuses 4, 6 and 7 end a call early: a device refused a read, a sink refused, memory ran out.
+/// Statuses 4, 6 and 7 end a call early: a device refused a read, a sink or the file of the cache refused, memory ran
+/// out.
 pub fn run_words<F: Files, O: Sink, E: Sink, D: Finder>(
     alloc: Global,
     words: &[String],
@@ -235,15 +265,30 @@ pub fn run_words<F: Files, O: Sink, E: Sink, D: Finder>(
     err: &mut E,
     finder: &mut D,
 ) -> u8
-    // What is written, the status, and what the finder is asked for: those that are expected for the words and for what
-    // is held under the names of their files (where that is not told, for something under each).
+    // What is written, the status, what the finder is asked for, and the files after it: those that are expected for
+    // the words and for what is held under the names of their files and of their cache (where that is not told, for
+    // something under each).
     ensures output { let given = words_bytes words.now in
         let failed = Rose (F.faults files.old) (F.faults files.new) in
-        (met : List (Option (List ℕ))) × AreUnder (F.held files.old) (file_names given) met
-        × Leaves (expected given met) (file_names given) failed result
+        (met : CallMet) × IsMet (F.held files.old) (file_names given) (cache_name given) met
+        × Leaves (expected given met) (read_names given) failed result
         (change_of O.written O.puts O.faults out.old out.new) (change_of E.written E.puts E.faults err.old err.new)
-        × LeavesAsked (asked_by given met) result (D.asked finder.old) (D.asked finder.new) }
-    ensures files { F.held files.new ≡ F.held files.old }
+        × LeavesAsked (asked_by given met) result (D.asked finder.old) (D.asked finder.new)
+        × LeavesFiles (left_by given met) (expected given met).out result
+        (change_of O.written O.puts O.faults out.old out.new) (F.held files.old) (F.held files.new) }
+    // Words that name no cache change no file.
+    ensures files { cache_name (words_bytes words.now) ≡ None → F.held files.new ≡ F.held files.old }
+    // With a cache that is honest, missing or refused a check gives the reports and the status that it gives without
+    // one.
+    ensures cache { (held : Held) (other : List (List ℕ)) → F.held files.old ≡ Some held
+        → AsksWithoutCache (words_bytes words.now) other → IsCacheHonest (cache_name (words_bytes words.now)) held
+        → result ≢ 4 → result ≢ 6 → result ≢ 7
+        → WritesAs (expected other (met_of held (file_names other))) result
+        (change_of O.written O.puts O.faults out.old out.new) }
+    // It leaves an honest cache, or the files as they were, whatever the status.
+    ensures kept_honest { (held after : Held) → F.held files.old ≡ Some held → F.held files.new ≡ Some after
+        → IsCacheHonest (cache_name (words_bytes words.now)) held
+        → IsCacheHonest (cache_name (words_bytes words.now)) after }
     // Where the report of an assembly has told each method that one reaches by calls to be proved, no run of that one
     // in its world, which begins with its own unit, is ever at a fault, whatever the status and however far the report
     // came.
@@ -274,7 +319,8 @@ pub fn run_words<F: Files, O: Sink, E: Sink, D: Finder>(
     ensures missing_cause { result ≡ 3 → Rose (F.missed files.old) (F.missed files.new) }
     ensures unread_cause { result ≡ 4 → Rose (F.faults files.old) (F.faults files.new) }
     ensures unwritten_cause { result ≡ 6 →
-        Rose (O.faults out.old) (O.faults out.new) ⊎ Rose (E.faults err.old) (E.faults err.new) }
+        IfNamed (cache_name (words_bytes words.now)) (Rose (F.faults files.old) (F.faults files.new))
+        ⊎ (Rose (O.faults out.old) (O.faults out.new) ⊎ Rose (E.faults err.old) (E.faults err.new)) }
     // Words that are no command are told so, unless that line is interrupted.
     ensures usage { result ≡ 2 → command_of (words_bytes words.now) ≡ None }
     ensures no_command { command_of (words_bytes words.now) ≡ None → (result ≡ 2) ⊎ ((result ≡ 6) ⊎ (result ≡ 7)) }

@@ -4,7 +4,7 @@
 
 ghost use Rattle.std.specs.Prelude.{◌≡◌, ◌<◌, All, List, Option, length, ℕ};
 ghost use Rattle.cc_base.specs.Counts.{Rose, Kept};
-ghost use Rattle.check_driver.specs.Met.{AreUnder, IsUnder, Reads, ReadsOne};
+ghost use Rattle.check_driver.specs.Met.{AreUnder, IsUnder, Reads, ReadsCache, ReadsOne};
 ghost use Rattle.command_words.specs.Words.{word_at, words_at, words_bytes};
 ghost use Rattle.check_driver.specs.declared.reading.Unread.TheVariants.{NoMemory};
 
@@ -67,10 +67,35 @@ pub fn read_files<F: Files>(
         (met : List (Option (List ℕ))) × AreUnder (F.held files.old) (words_at given indexes.now) met
         × Reads given indexes.now met (Rose (F.missed files.old) (F.missed files.new)) (Rose (F.faults files.old) (F.faults files.new)) result }
     ensures files { F.held files.new ≡ F.held files.old }
+    ensures missed_kept { Kept (F.missed files.old) (F.missed files.new) }
+    ensures faults_kept { Kept (F.faults files.old) (F.faults files.new) }
 {
     let mut read = Vec::new(alloc);
     for word in indexes {
         read.push(read_file(alloc, words, *word, files)?)?;
     }
     Ok(read)
+}
+
+/// Reads the cache that the word at an index names, cut to its first `READ_LIMIT` bytes. It may be missing.
+pub fn read_cache<F: Files>(
+    alloc: Global,
+    words: &[String],
+    index: u32,
+    files: &mut F,
+) -> Result<Option<Vec<u8>>, Unread>
+    requires { index < length words.now }
+    ensures read { (under : Option (List ℕ))
+        × IsUnder (F.held files.old) (word_at (words_bytes words.now) index) under
+        × ReadsCache index under (Rose (F.faults files.old) (F.faults files.new)) result }
+    ensures files { F.held files.new ≡ F.held files.old }
+    ensures missed_kept { Kept (F.missed files.old) (F.missed files.new) }
+    ensures faults_kept { Kept (F.faults files.old) (F.faults files.new) }
+{
+    match read_file(alloc, words, index, files) {
+        Ok(bytes) => Ok(Some(bytes)),
+        Err(Unread::Missing(_)) => Ok(None),
+        Err(Unread::Failed(index)) => Err(Unread::Failed(index)),
+        Err(Unread::NoMemory) => Err(Unread::NoMemory),
+    }
 }

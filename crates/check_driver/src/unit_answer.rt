@@ -3,20 +3,19 @@
 #![tactic(auto, using(cc_base::proofs::SinkLemmas::sinks, cc_base::proofs::CountLemmas::counts, answer_lines::proofs::LineLemmas::puts_none))]
 
 ghost use Rattle.std.specs.Prelude.{◌≡◌, ◌<◌, [], ◌∷◌, length, IfOk};
-ghost use Rattle.check_driver.specs.Analysis.{unit_verdicts};
-ghost use Rattle.check_driver.specs.Asked.{Asks, unit_asked, unit_file_asked};
+ghost use Rattle.check_driver.specs.Asked.{unit_asked, unit_file_asked};
 ghost use Rattle.check_driver.specs.Expected.{unit_answer, unit_file_answer};
 ghost use Rattle.check_driver.specs.NothingOr.{NothingOr};
 ghost use Rattle.check_driver.specs.ProvedUnit.{AreSpelled};
 ghost use Rattle.answer_lines.specs.Outcome.{Gives};
-ghost use Rattle.check_driver.specs.ReportText.{unit_report};
+ghost use Rattle.check_driver.specs.ReportText.{unit_report, unit_verdicts};
 ghost use Rattle.invariant_checker.specs.Counts.{all_proved};
 ghost use Rattle.answer_lines.specs.Writing.{Writes, change_of};
 ghost use Rattle.method_unit.specs.UnitFile.{first_unit_fault};
 ghost use Rattle.method_unit.specs.Units.{IsUnit};
 ghost use Rattle.unit_form.specs.Spelling.{unit_bytes};
+ghost use Rattle.unit_verdicts.specs.Asked.{Asks};
 
-use crate::analysis::{find_flow, judge_flow};
 use crate::unit_report::report_lines;
 use answer_lines::{Interrupt, answer_refused, put_lines};
 use assembly_answers::unit_fault_text;
@@ -26,6 +25,7 @@ use invariant_checker::all_proved;
 use method_unit::{UnitRefusal, read_unit};
 use stack_typer::TypedUnit;
 use std::alloc::Global;
+use unit_verdicts::{find_flow, judge_flow};
 use widening_engine::Finder;
 
 /// Puts the report of a unit, and returns whether the unit is proved.

@@ -2,8 +2,7 @@
 
 ghost use Rattle.std.specs.Prelude.{◌≡◌, ◌++◌, ◌<◌, ◌≤◌, length, All, IfOk, OnOk, option_copied};
 ghost use Rattle.std.specs.List.{AllByRecursion, flat_map};
-ghost use Rattle.check_driver.specs.ReportText.{callee_of, unit_report, verdict_line};
-ghost use Rattle.check_driver.specs.Analysis.{unit_verdicts};
+ghost use Rattle.check_driver.specs.ReportText.{callee_of, unit_report, unit_verdicts, verdict_line};
 ghost use Rattle.answer_lines.specs.LineCounts.{AreLines};
 ghost use Rattle.answer_lines.specs.Writing.{joined};
 ghost use Rattle.cil_model.specs.WellFormed.{IsCallee, IsWellFormed};

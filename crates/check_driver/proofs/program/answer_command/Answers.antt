@@ -1,54 +1,80 @@
-use Rattle.std.proofs.Common.{◌≡◌, inl, refl, ◌∙◌}
+use Rattle.std.proofs.Common.{◌≡◌, ℕ, ◌<◌, List, Vec, Global, length, sym, ap, subst, refl, ◌∙◌}
+use Rattle.std.specs.Prelude.{All}
 use Rattle.std.proofs.lemmas.Result.{err_from_is_err_and}
-use Rattle.cc_base.proofs.CountLemmas.{Kept-refl}
 use Rattle.answer_lines.specs.Answers.{missing_line, unread_line}
-use Rattle.check_driver.specs.Asked.{files_asked}
-use Rattle.check_driver.specs.Expected.{files_answer}
-use Rattle.command_words.specs.Words.{file_indexes, word_at, words_at, words_bytes}
-use Rattle.answer_lines.proofs.Writings.{gives_no_memory, gives_error}
-use Rattle.check_driver.proofs.Answering.{read_answer, read_asked, missing_answer, missing_asked, gives_unread}
-use Rattle.check_driver.proofs.Asking.{answer_asks, answer_asks_none, unasked, unread_asks}
-use Rattle.check_driver.proofs.FilesRead.{all_under, contents_long}
+use Rattle.answer_lines.proofs.Writings.{gives_error}
+use Rattle.command_words.specs.Words.{file_indexes, word_at, words_bytes}
+use Rattle.command_words.proofs.UsedIndexes.{cache_used, files_used}
+use Rattle.check_driver.proofs.CommandEnds.{missing_call, no_memory_call, read_call, unread_call}
+use Rattle.check_driver.specs.CacheMet.{IsMet}
+use Rattle.check_driver.proofs.FilesRead.{contents_long}
+use Rattle.check_driver.proofs.InputsRead.{file_below, no_cache_read, read_below}
 use Rattle.check_driver.proofs.Statuses.{never_missing}
 use Rattle.check_driver.proofs.Reportable.{held_checked, none_begun}
 use Rattle.check_driver.proofs.SpelledUnits.{held_spelled}
 use Rattle.check_driver.proofs.program.answer_command.Goals as goal
 
-pub answer_bytes-requires-clause-read : goal.answer_bytes-requires-clause-read
-answer_bytes-requires-clause-read g c =
+pub read_inputs-requires-clause-inside : goal.read_inputs-requires-clause-inside
+read_inputs-requires-clause-inside g c =
+    let below : ℕ → Type 0 = λ index. index < length c.args.words.now in
     let indexes : c.deref.result.now ≡ file_indexes c.args.command = c.deref.ensures.value ∙ c.in_ok-indexes.ensures in
-    let met = rw indexes at c.in-Ok.ensures.read in
-    rw c.deref-in-Ok-2.ensures.value (contents_long (g.F.Files.held c.args.files.now) (words_bytes c.args.words.now) (file_indexes c.args.command) met.0 c.in-Ok.read.items met.1 met.2)
+    subst (All below) (sym indexes) (files_used (length c.args.words.now) c.args.command c.requires.inside)
+
+pub read_inputs-requires-clause-named : goal.read_inputs-requires-clause-named
+read_inputs-requires-clause-named g c = cache_used (length c.args.words.now) c.args.command c.requires.inside
+
+pub word_at-requires : goal.word_at-requires
+word_at-requires g c =
+    let met = rw c.in-Err-Missing.field-0-is at c.in-Err-Missing.ensures.read in
+    rw c.in-Err-Missing.file-is (file_below (length c.args.words.now) c.args.command c.in-Err-Missing.file c.requires.inside met.2.1)
+
+pub word_at-requires-in-Err-Failed : goal.word_at-requires-in-Err-Failed
+word_at-requires-in-Err-Failed g c =
+    let met = rw c.in-Err-Failed.field-0-is at c.in-Err-Failed.ensures.read in
+    rw c.in-Err-Failed.file-is (read_below (length c.args.words.now) c.args.command c.in-Err-Failed.file c.requires.inside met.2.1)
+
+pub answer_bytes-requires-clause-called : goal.answer_bytes-requires-clause-called
+answer_bytes-requires-clause-called g c =
+    let told = g.F.Files.held c.args.files.now in
+    let words = words_bytes c.args.words.now in
+    let met = c.in-Ok.ensures.read in
+    record {
+      used = c.requires.inside;
+      files = files_used (length c.args.words.now) c.args.command c.requires.inside;
+      cache = cache_used (length c.args.words.now) c.args.command c.requires.inside;
+      indexes = c.deref-in-Ok.ensures.value ∙ c.in_ok-indexes.ensures;
+      each =
+          ap (λ (read : List (Vec ℕ Global)). length read) c.deref-in-Ok-2.ensures.value
+          ∙ contents_long told words (file_indexes c.args.command) met.0.files c.in-Ok.inputs.files.items (IsMet.files met.1) met.2.0;
+      none = no_cache_read told words c.args.command met.0.cache c.in-Ok.inputs.cache (IsMet.cache met.1) met.2.1;
+    }
 
 -- ---- the files were read
 
 pub returns-in-Ok-clause-answer : goal.returns-in-Ok-clause-answer
 returns-in-Ok-clause-answer g c =
-    let indexes : c.deref.result.now ≡ file_indexes c.args.command = c.deref.ensures.value ∙ c.in_ok-indexes.ensures in
-    let met = rw indexes at c.in-Ok.ensures.read in
-    let same = read_answer c.args.command (words_bytes c.args.words.now) met.0 c.in-Ok.read.items met.2 in
-    let asked = read_asked c.args.command (words_bytes c.args.words.now) met.0 c.in-Ok.read.items met.2 in (
-      met.0,
-      met.1,
-      inl (rw same (rw c.deref-in-Ok-2.ensures.value at c.answer_bytes.ensures.answer)),
-      rw asked (answer_asks _ c.answer_bytes.result _ _ (rw c.deref-in-Ok-2.ensures.value at c.answer_bytes.ensures.asked)),
-    )
+    let told = g.F.Files.held c.args.files.now in
+    let words = words_bytes c.args.words.now in
+    let met = c.in-Ok.ensures.read in
+    let files = c.deref-in-Ok-2.ensures.value in
+    read_call told words c.args.command (g.F.Files.held c.read_inputs.new.files) _ _ _ _ met.0 c.in-Ok.inputs.files.items c.in-Ok.inputs.cache c.answer_bytes.result _ _ _ _ c.read_inputs.ensures.files
+    c.read_inputs.ensures.faults_kept met.1 met.2.0 met.2.1 (rw files at c.answer_bytes.ensures.answer) (rw files at c.answer_bytes.ensures.asked) (rw files at c.answer_bytes.ensures.left)
+    (rw files at c.answer_bytes.ensures.alike) c.answer_bytes.ensures.honest
 
 pub returns-in-Ok-clause-missing : goal.returns-in-Ok-clause-missing
-returns-in-Ok-clause-missing g c = never_missing c.args.command (words_bytes c.args.words.now) _ c.answer_bytes.result _ c.answer_bytes.ensures.answer.status
+returns-in-Ok-clause-missing g c = never_missing c.args.command (words_bytes c.args.words.now) _ _ c.answer_bytes.result _ _ _ _ c.answer_bytes.ensures.answer
 
 pub returns-in-Ok-clause-begun : goal.returns-in-Ok-clause-begun
 returns-in-Ok-clause-begun g c =
-    let indexes : c.deref.result.now ≡ file_indexes c.args.command = c.deref.ensures.value ∙ c.in_ok-indexes.ensures in
-    let met = rw indexes at c.in-Ok.ensures.read in
-    held_checked (g.F.Files.held c.args.files.now) c.args.command (words_bytes c.args.words.now) met.0 c.in-Ok.read.items _ _ met.1 met.2
-    (rw c.deref-in-Ok-2.ensures.value at c.answer_bytes.ensures.begun)
+    let met = c.in-Ok.ensures.read in
+    let indexes : c.deref-in-Ok.result.now ≡ file_indexes c.args.command = c.deref-in-Ok.ensures.value ∙ c.in_ok-indexes.ensures in
+    held_checked (g.F.Files.held c.args.files.now) c.args.command (words_bytes c.args.words.now) met.0.files c.in-Ok.inputs.files.items _ _ _ (IsMet.files met.1) met.2.0
+    (rw (c.deref-in-Ok-2.ensures.value, indexes) at c.answer_bytes.ensures.begun)
 
 pub returns-in-Ok-clause-spelled : goal.returns-in-Ok-clause-spelled
 returns-in-Ok-clause-spelled g c =
-    let indexes : c.deref.result.now ≡ file_indexes c.args.command = c.deref.ensures.value ∙ c.in_ok-indexes.ensures in
-    let met = rw indexes at c.in-Ok.ensures.read in
-    held_spelled (g.F.Files.held c.args.files.now) c.args.command (words_bytes c.args.words.now) met.0 c.in-Ok.read.items _ met.1 met.2
+    let met = c.in-Ok.ensures.read in
+    held_spelled (g.F.Files.held c.args.files.now) c.args.command (words_bytes c.args.words.now) met.0.files c.in-Ok.inputs.files.items _ (IsMet.files met.1) met.2.0
     (rw c.deref-in-Ok-2.ensures.value at c.answer_bytes.ensures.spelled)
 
 -- ---- one was not
@@ -57,15 +83,11 @@ pub returns-in-Err-Missing-clause-answer : goal.returns-in-Err-Missing-clause-an
 returns-in-Err-Missing-clause-answer g c =
     let words = words_bytes c.args.words.now in
     let name = word_at words c.in-Err-Missing.file in
-    let indexes : c.deref.result.now ≡ file_indexes c.args.command = c.deref.ensures.value ∙ c.in_ok-indexes.ensures in
-    let met = rw (c.in-Err-Missing.field-0-is, indexes) at c.in-Err-Missing.ensures.read in
-    let written = rw (c.as_bytes.ensures.value, c.word_at.ensures, c.in-Err-Missing.file-is) at c.answer_missing.ensures.written in (
-      met.0,
-      met.1,
-      inl (rw (missing_answer c.args.command words met.0 name met.2.2)
-          (gives_error 3 (missing_line name) c.answer_missing.result (g.O.Sink.written c.args.out.now) (g.O.Sink.puts c.args.out.now) (g.O.Sink.faults c.args.out.now) _ c.answer_missing.ensures.status written)),
-      rw (missing_asked c.args.command words met.0 name met.2.2) (answer_asks_none c.answer_missing.result (g.D.Finder.asked c.args.finder.now)),
-    )
+    let met = rw c.in-Err-Missing.field-0-is at c.in-Err-Missing.ensures.read in
+    let written = rw (c.as_bytes.ensures.value, c.word_at.ensures, c.in-Err-Missing.file-is) at c.answer_missing.ensures.written in
+    missing_call (g.F.Files.held c.args.files.now) words c.args.command (g.F.Files.held c.read_inputs.new.files) _ met.0 c.in-Err-Missing.file c.answer_missing.result _ _ _
+    c.read_inputs.ensures.files met.1 met.2.2
+    (gives_error 3 (missing_line name) c.answer_missing.result (g.O.Sink.written c.args.out.now) (g.O.Sink.puts c.args.out.now) (g.O.Sink.faults c.args.out.now) _ c.answer_missing.ensures.status written)
 
 pub returns-in-Err-Missing-clause-begun : goal.returns-in-Err-Missing-clause-begun
 returns-in-Err-Missing-clause-begun g c = none_begun (g.F.Files.held c.args.files.now) c.args.command (words_bytes c.args.words.now) (g.O.Sink.written c.args.out.now)
@@ -74,15 +96,11 @@ pub returns-in-Err-Failed-clause-answer : goal.returns-in-Err-Failed-clause-answ
 returns-in-Err-Failed-clause-answer g c =
     let words = words_bytes c.args.words.now in
     let name = word_at words c.in-Err-Failed.file in
-    let indexes : c.deref.result.now ≡ file_indexes c.args.command = c.deref.ensures.value ∙ c.in_ok-indexes.ensures in
-    let met = rw (c.in-Err-Failed.field-0-is, indexes) at c.in-Err-Failed.ensures.read in
-    let written = rw (c.as_bytes-in-Err-Failed.ensures.value, c.word_at-in-Err-Failed.ensures, c.in-Err-Failed.file-is) at c.answer_unread.ensures.written in (
-      met.0,
-      met.1,
-      gives_unread (files_answer c.args.command words met.0) words (file_indexes c.args.command) c.in-Err-Failed.file _ c.answer_unread.result _ _ met.2.0 met.2.1
-          (gives_error 4 (unread_line name) c.answer_unread.result (g.O.Sink.written c.args.out.now) (g.O.Sink.puts c.args.out.now) (g.O.Sink.faults c.args.out.now) _ c.answer_unread.ensures.status written),
-      unread_asks (files_asked c.args.command words met.0) c.answer_unread.result (g.D.Finder.asked c.args.finder.now) c.answer_unread.ensures.status,
-    )
+    let met = rw c.in-Err-Failed.field-0-is at c.in-Err-Failed.ensures.read in
+    let written = rw (c.as_bytes-in-Err-Failed.ensures.value, c.word_at-in-Err-Failed.ensures, c.in-Err-Failed.file-is) at c.answer_unread.ensures.written in
+    unread_call (g.F.Files.held c.args.files.now) words c.args.command (g.F.Files.held c.read_inputs.new.files) _ met.0 c.in-Err-Failed.file c.answer_unread.result _ _ _
+    c.read_inputs.ensures.files met.1 met.2.0 met.2.1 c.answer_unread.ensures.status
+    (gives_error 4 (unread_line name) c.answer_unread.result (g.O.Sink.written c.args.out.now) (g.O.Sink.puts c.args.out.now) (g.O.Sink.faults c.args.out.now) _ c.answer_unread.ensures.status written)
 
 pub returns-in-Err-Failed-clause-begun : goal.returns-in-Err-Failed-clause-begun
 returns-in-Err-Failed-clause-begun g c = none_begun (g.F.Files.held c.args.files.now) c.args.command (words_bytes c.args.words.now) (g.O.Sink.written c.args.out.now)
@@ -91,22 +109,15 @@ returns-in-Err-Failed-clause-begun g c = none_begun (g.F.Files.held c.args.files
 
 pub returns-clause-answer : goal.returns-clause-answer
 returns-clause-answer g c =
-    let words = words_bytes c.args.words.now in
-    let met = all_under (g.F.Files.held c.args.files.now) (words_at words (file_indexes c.args.command)) in (
-      met.0,
-      met.1,
-      inl (gives_no_memory (files_answer c.args.command words met.0) _ _ refl refl (Kept-refl (g.O.Sink.faults c.args.out.now)) (Kept-refl (g.E.Sink.faults c.args.err.now))),
-      unasked (files_asked c.args.command words met.0) (g.D.Finder.asked c.args.finder.now),
-    )
+    no_memory_call (g.F.Files.held c.args.files.now) (words_bytes c.args.words.now) c.args.command (g.F.Files.held c.read_inputs.new.files) _ _ _ _ _ _ _ _ c.read_inputs.ensures.files
 
 pub returns-in_err-indexes-clause-answer : goal.returns-in_err-indexes-clause-answer
 returns-in_err-indexes-clause-answer g c =
-    let words = words_bytes c.args.words.now in
     let p = err_from_is_err_and c.from_residual.result c.from_residual.ensures.1 in
-    let met = all_under (g.F.Files.held c.args.files.now) (words_at words (file_indexes c.args.command)) in (
-      met.0,
-      met.1,
-      inl (rw (p.1, p.2)
-          (gives_no_memory (files_answer c.args.command words met.0) _ _ refl refl (Kept-refl (g.O.Sink.faults c.args.out.now)) (Kept-refl (g.E.Sink.faults c.args.err.now)))),
-      rw (p.1, p.2) (unasked (files_asked c.args.command words met.0) (g.D.Finder.asked c.args.finder.now)),
-    )
+    rw (p.1, p.2) (no_memory_call (g.F.Files.held c.args.files.now) (words_bytes c.args.words.now) c.args.command (g.F.Files.held c.args.files.now) _ _ _ _ _ _ _ _ refl)
+
+pub returns-clause-begun : goal.returns-clause-begun
+returns-clause-begun g c = none_begun (g.F.Files.held c.args.files.now) c.args.command (words_bytes c.args.words.now) (g.O.Sink.written c.args.out.now)
+
+pub returns-in_err-indexes-clause-begun : goal.returns-in_err-indexes-clause-begun
+returns-in_err-indexes-clause-begun g c = none_begun (g.F.Files.held c.args.files.now) c.args.command (words_bytes c.args.words.now) (g.O.Sink.written c.args.out.now)

@@ -1,28 +1,59 @@
-use Rattle.std.proofs.Common.{sym, ◌∙◌}
-use Rattle.check_driver.specs.Asked.{asked_by}
-use Rattle.check_driver.specs.Expected.{expected}
-use Rattle.command_words.specs.Words.{file_names, words_bytes}
+use Rattle.std.proofs.Common.{◌≢◌, sym, ◌∙◌}
+use Rattle.command_words.specs.Words.{cache_name, read_names, words_bytes}
+use Rattle.answer_lines.specs.Outcome.{status_of}
 use Rattle.answer_lines.specs.Writing.{change_of}
-use Rattle.check_driver.proofs.Asking.{leaves_asked}
 use Rattle.answer_lines.proofs.Causes.{unread_cause, unwritten_cause}
-use Rattle.check_driver.proofs.Statuses.{usage_only, plain_expected}
 use Rattle.answer_lines.proofs.Leaving.{front_given, leaves}
+use Rattle.check_driver.specs.Asked.{asked_by}
+use Rattle.check_driver.specs.CacheLeft.{left_by}
+use Rattle.check_driver.specs.CacheMet.{IsMet}
+use Rattle.check_driver.specs.Expected.{expected}
+use Rattle.check_driver.proofs.Asking.{leaves_asked}
+use Rattle.check_driver.proofs.CallEnds.{cache_alike, kept_honest, leaves_files, same_without}
 use Rattle.check_driver.proofs.CheckedSafety.{section_safe}
 use Rattle.check_driver.proofs.HeadlineSafety.{headline_keeps, headline_safe}
 use Rattle.check_driver.proofs.ProvedUnits.{proved_unit_is_safe}
 use Rattle.check_driver.proofs.RefutedMethods.{refuted_is_unsafe}
+use Rattle.check_driver.proofs.Statuses.{usage_only, plain_expected}
 use Rattle.check_driver.proofs.program.run_words.Goals as goal
 
 pub returns-clause-output : goal.returns-clause-output
 returns-clause-output g c =
     let words = words_bytes c.args.words.now in
-    let answer = c.answer_words-answered.ensures.answer in (
-      answer.0,
+    let answer = c.answer_words-answered.ensures.answer in
+    let met = answer.0 in (
+      met,
       answer.1,
       rw c.finish.ensures.status
-          (leaves (expected words answer.0) (file_names words) _ c.answer_words-answered.result _ _ _ _ _ _ _ _ _ _ (plain_expected words answer.0) answer.2 c.finish.ensures.front c.finish.ensures.puts),
-      rw c.finish.ensures.status (leaves_asked (asked_by words answer.0) c.answer_words-answered.result _ _ answer.3),
+          (leaves (expected words met) (read_names words) _ _ c.answer_words-answered.result _ _ _ _ _ _ _ _ _ _ (plain_expected words met) answer.2 c.finish.ensures.front c.finish.ensures.puts),
+      rw c.finish.ensures.status (leaves_asked (asked_by words met) c.answer_words-answered.result _ _ answer.3),
+      rw c.finish.ensures.status (leaves_files (left_by words met) (expected words met).out c.answer_words-answered.result _ _ _ answer.4),
     )
+
+pub returns-clause-files : goal.returns-clause-files
+returns-clause-files g c = λ none. same_without (cache_name (words_bytes c.args.words.now)) _ _ _ c.answer_words-answered.ensures.answer.6 none
+
+pub returns-clause-cache : goal.returns-clause-cache
+returns-clause-cache g c = λ held other told asks honest read written memory.
+    let words = words_bytes c.args.words.now in
+    let answer = c.answer_words-answered.ensures.answer in
+    let met = answer.0 in
+    let status = c.finish.ensures.status in
+    let ends =
+    leaves (expected words met) (read_names words) _ _ c.answer_words-answered.result _ _ _ _ _ _ _ _ _ (g.E.Sink.faults c.finish.new.err) (plain_expected words met) answer.2
+    c.finish.ensures.front c.finish.ensures.puts in
+    let not_read : status_of c.answer_words-answered.result ≢ 4 = λ e. read (status ∙ e) in
+    let not_written : status_of c.answer_words-answered.result ≢ 6 = λ e. written (status ∙ e) in
+    let no_memory : status_of c.answer_words-answered.result ≢ 7 = λ e. memory (status ∙ e) in
+    let all = ends.answered not_read not_written no_memory in
+    rw status
+    (cache_alike words other (g.F.Files.held c.args.files.now) held met c.answer_words-answered.result _ asks told answer.1 honest answer.5 not_read not_written no_memory (all.0, all.1))
+
+pub returns-clause-kept_honest : goal.returns-clause-kept_honest
+returns-clause-kept_honest g c = λ held after told now honest.
+    let words = words_bytes c.args.words.now in
+    let answer = c.answer_words-answered.ensures.answer in
+    kept_honest (cache_name words) answer.0.cache _ _ held after told now (IsMet.cache answer.1) answer.6 honest
 
 pub returns-clause-headline : goal.returns-clause-headline
 returns-clause-headline g c = λ held k bytes text method told assembly appended has all.
@@ -41,8 +72,8 @@ returns-clause-refuted g c = λ held bytes token told asks prints safe.
     let words = words_bytes c.args.words.now in
     let answer = c.answer_words-answered.ensures.answer in
     let written = g.O.Sink.written in
-    refuted_is_unsafe (g.F.Files.held c.args.files.now) words held bytes token answer.0 (written c.args.out.now) (written c.answer_words-answered.new.out) told asks answer.1
-    (front_given (expected words answer.0) (file_names words) _ c.answer_words-answered.result
+    refuted_is_unsafe (g.F.Files.held c.args.files.now) words held bytes token answer.0 (written c.args.out.now) (written c.answer_words-answered.new.out) told asks (IsMet.files answer.1)
+    (front_given (expected words answer.0) (read_names words) _ _ c.answer_words-answered.result
     (change_of written g.O.Sink.puts g.O.Sink.faults c.args.out.now c.answer_words-answered.new.out) _ answer.2)
     prints safe
 
@@ -51,8 +82,8 @@ returns-clause-single_unit g c = λ held bytes signature told asks prints.
     let words = words_bytes c.args.words.now in
     let answer = c.answer_words-answered.ensures.answer in
     let written = g.O.Sink.written in
-    proved_unit_is_safe (g.F.Files.held c.args.files.now) words held bytes signature answer.0 (written c.args.out.now) (written c.answer_words-answered.new.out) told asks answer.1
-    (front_given (expected words answer.0) (file_names words) _ c.answer_words-answered.result
+    proved_unit_is_safe (g.F.Files.held c.args.files.now) words held bytes signature answer.0 (written c.args.out.now) (written c.answer_words-answered.new.out) told asks (IsMet.files answer.1)
+    (front_given (expected words answer.0) (read_names words) _ _ c.answer_words-answered.result
     (change_of written g.O.Sink.puts g.O.Sink.faults c.args.out.now c.answer_words-answered.new.out) _ answer.2)
     c.answer_words-answered.ensures.spelled prints
 
@@ -60,20 +91,20 @@ pub returns-clause-unread_cause : goal.returns-clause-unread_cause
 returns-clause-unread_cause g c = λ is.
     let words = words_bytes c.args.words.now in
     let answer = c.answer_words-answered.ensures.answer in
-    unread_cause (expected words answer.0) (file_names words) _ c.answer_words-answered.result _ _ (plain_expected words answer.0) answer.2 (sym c.finish.ensures.status ∙ is)
+    unread_cause (expected words answer.0) (read_names words) _ _ c.answer_words-answered.result _ _ (plain_expected words answer.0) answer.2 (sym c.finish.ensures.status ∙ is)
 
 pub returns-clause-unwritten_cause : goal.returns-clause-unwritten_cause
 returns-clause-unwritten_cause g c = λ is.
     let words = words_bytes c.args.words.now in
     let answer = c.answer_words-answered.ensures.answer in
-    unwritten_cause (expected words answer.0) (file_names words) _ c.answer_words-answered.result _ _ _ (plain_expected words answer.0) answer.2 c.finish.ensures.kept
+    unwritten_cause (expected words answer.0) (read_names words) _ _ c.answer_words-answered.result _ _ _ (plain_expected words answer.0) answer.2 c.finish.ensures.kept
     (sym c.finish.ensures.status ∙ is)
 
 pub returns-clause-usage : goal.returns-clause-usage
 returns-clause-usage g c = λ is.
     let words = words_bytes c.args.words.now in
     let answer = c.answer_words-answered.ensures.answer in
-    usage_only words answer.0 (file_names words) _ c.answer_words-answered.result _ _ answer.2 (sym c.finish.ensures.status ∙ is)
+    usage_only words answer.0 (read_names words) _ _ c.answer_words-answered.result _ _ answer.2 (sym c.finish.ensures.status ∙ is)
 
 pub returns-clause-checked : goal.returns-clause-checked
 returns-clause-checked g c = λ held k bytes text method told assembly appended has line.

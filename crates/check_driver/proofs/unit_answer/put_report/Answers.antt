@@ -4,7 +4,8 @@ use Rattle.answer_lines.specs.Writing.{joined}
 use Rattle.method_unit.specs.Units.{IsUnit}
 use Rattle.check_driver.specs.ReportText.{unit_report}
 use Rattle.answer_lines.proofs.Writings.{written_whole}
-use Rattle.check_driver.proofs.Asking.{asks_nothing}
+use Rattle.check_driver.proofs.CheckParts.{writes_no_memory}
+use Rattle.unit_verdicts.proofs.Asking.{asks_nothing}
 use Rattle.check_driver.proofs.unit_answer.put_report.Goals as goal
 
 pub report_lines-requires-clause-few : goal.report_lines-requires-clause-few
@@ -28,3 +29,13 @@ pub returns-clause-written : goal.returns-clause-written
 returns-clause-written g c =
     let same : joined c.deref-2.result.now ≡ unit_report c.args.unit = ap joined c.deref-2.ensures.value ∙ c.in_ok-lines.ensures.text ∙ ap unit_report c.in_ok-code.ensures.unit in
     written_whole c.in_ok-put_lines.field-0 c.all_proved.result _ _ _ same c.in_ok-put_lines.ensures
+
+pub returns-in_err-found-clause-written : goal.returns-in_err-found-clause-written
+returns-in_err-found-clause-written g c =
+    let p = err_from_is_err_and c.from_residual-in_err-found.result c.from_residual-in_err-found.ensures.1 in
+    rw (p.1, p.2) (writes_no_memory _ _ _ _)
+
+pub returns-in_err-lines-clause-written : goal.returns-in_err-lines-clause-written
+returns-in_err-lines-clause-written g c =
+    let p = err_from_is_err_and c.from_residual-in_err-lines.result c.from_residual-in_err-lines.ensures.1 in
+    rw (p.1, p.2) (writes_no_memory _ _ _ _)

@@ -1,0 +1,270 @@
+//! What is found of assemblies, and the reports of it.
+
+ghost use Rattle.std.specs.Prelude.{◌≡◌, ◌++◌, ◌<◌, ◌^◌, All, IfOk, OnOk, Some, if◌then◌else◌, length, map, slice_get, zip};
+ghost use Rattle.std.specs.List.{flat_map, list_all};
+ghost use Rattle.asm_image.specs.Rows.{methods_of};
+ghost use Rattle.asm_image.specs.declared.method_row.MethodRow.{MethodRow};
+ghost use Rattle.check_driver.specs.Asked.{asked_for, judged_keys, outcome_key, units_asked, with_judged};
+ghost use Rattle.check_driver.specs.CheckText.{all_methods_proved, all_shown, assembly_line, check_text, findings, found_counts, is_proved, method_line, outcome_finding, outcome_shown, verdict_text};
+ghost use Rattle.check_driver.specs.Checked.{AreRunnable, IsReportable};
+ghost use Rattle.answer_lines.specs.Counting.{AreBelow};
+ghost use Rattle.check_driver.specs.Findings.{IsWithin, finding_in, found_lines, shown_in};
+ghost use Rattle.assembly_answers.specs.ListText.{AreNamedPlainly};
+ghost use Rattle.answer_lines.specs.LineCounts.{AreLines, line_count};
+ghost use Rattle.answer_lines.specs.Writing.{joined};
+ghost use Rattle.method_unit.specs.Units.{IsUnit};
+ghost use Rattle.unit_builder.specs.Outcomes.{IfAnalysed, entries_of, outcome_of};
+ghost use Rattle.unit_verdicts.specs.Asked.{Asks};
+ghost use Rattle.unit_verdicts.specs.Picks.{Manner, limit_manner, limit_pick, pick_of};
+ghost use Rattle.unit_verdicts.specs.VerdictCache.{manner_of};
+
+use crate::finding::Finding;
+use crate::unit_report::append_verdict_lines;
+use answer_lines::{Counts, append_lines, summary_line};
+use asm_image::{Assembly, MethodRow};
+use cc_base::{append_escaped, put_hex};
+use std::alloc::{AllocError, Global};
+use unit_builder::Units;
+use unit_verdicts::VerdictCache;
+use widening_engine::Finder;
+
+/// The line of a method of which this is found.
+fn method_line(alloc: Global, method: &MethodRow, finding: &Finding) -> Result<Vec<u8>, AllocError>
+    ensures { IfOk result (λ line. line.items ≡ method_line method.now.token.0 method.now.name (verdict_text (finding_in finding.now))) }
+{
+    let mut line = Vec::from_slice(alloc, b"method ")?;
+    put_hex(alloc, &mut line, method.token.0, 8)?;
+    line.extend_from_slice(b" ")?;
+    line.extend_from_slice(method.name.as_slice())?;
+    line.extend_from_slice(b": ")?;
+    finding.append_text(alloc, &mut line)?;
+    line.extend_from_slice(b"\n")?;
+    Ok(line)
+}
+
+/// Appends the lines of a method of which this is found.
+fn append_finding(
+    alloc: Global,
+    lines: &mut Vec<Vec<u8>>,
+    method: &MethodRow,
+    finding: &Finding,
+) -> Result<(), AllocError>
+    requires within { IsWithin finding.now }
+    requires name { line_count method.now.name ≡ 0 }
+    requires lines { AreLines lines.old.items }
+    ensures text { OnOk result (joined lines.new.items ≡ joined lines.old.items ++ found_lines (method.now, finding.now)) }
+    ensures lines { OnOk result (AreLines lines.new.items) }
+{
+    lines.push(method_line(alloc, method, finding)?)?;
+    append_verdict_lines(alloc, lines, finding.callees(), finding.verdicts())?;
+    append_lines(alloc, lines, finding.shown())
+}
+
+/// Appends the lines of each method, of which these are found.
+fn append_findings(
+    alloc: Global,
+    lines: &mut Vec<Vec<u8>>,
+    methods: &[MethodRow],
+    found: &[Finding],
+) -> Result<(), AllocError>
+    requires within { All IsWithin found.now }
+    requires names { AreNamedPlainly methods.now }
+    requires lines { AreLines lines.old.items }
+    ensures text { OnOk result (joined lines.new.items ≡ joined lines.old.items ++ flat_map found_lines (zip methods.now found.now)) }
+    ensures lines { OnOk result (AreLines lines.new.items) }
+{
+    for (method, finding) in methods.iter().zip(found.iter()) {
+        append_finding(alloc, lines, method, finding)?;
+    }
+    Ok(())
+}
+
+/// Returns what is found of the method of this index.
+fn find<D: Finder>(
+    alloc: Global,
+    units: &mut Units<'_>,
+    index: usize,
+    cache: &mut VerdictCache,
+    finder: &mut D,
+) -> Result<Finding, AllocError>
+    requires there { index < length (methods_of units.old) }
+    ensures same { units.new ≡ units.old }
+    ensures value { (method : MethodRow) → slice_get (methods_of units.old) index ≡ Some method → IfOk result (λ found. finding_in found ≡ outcome_finding (pick_of cache.old.held) (outcome_of units.old method)) }
+    ensures shown { (method : MethodRow) → slice_get (methods_of units.old) index ≡ Some method
+        → IfOk result (λ found. shown_in found ≡ outcome_shown (manner_of cache.old) (outcome_of units.old method)) }
+    ensures within { IfOk result IsWithin }
+    ensures runnable { (method : MethodRow) → slice_get (methods_of units.old) index ≡ Some method → IfOk result (λ _. IfAnalysed (outcome_of units.old method) IsUnit) }
+    ensures cache { (method : MethodRow) → slice_get (methods_of units.old) index ≡ Some method
+        → OnOk result (cache.new ≡ with_judged cache.old (outcome_key (outcome_of units.old method))) }
+    ensures asked { (method : MethodRow) → slice_get (methods_of units.old) index ≡ Some method
+        → Asks (asked_for cache.old (outcome_key (outcome_of units.old method))) result (D.asked finder.old) (D.asked finder.new) }
+{
+    let outcome = units.outcome(alloc, index)?;
+    Finding::of(alloc, outcome, cache, finder)
+}
+
+/// Returns what is found of each method of an assembly, with the text of its invariant where that is shown. Of equal
+/// units one is judged, also among those that are in the cache.
+pub fn find_all<D: Finder>(
+    alloc: Global,
+    assembly: &Assembly<'_>,
+    cache: &mut VerdictCache,
+    finder: &mut D,
+) -> Result<Vec<Finding>, AllocError>
+    ensures value { IfOk result (λ found. map finding_in found.items ≡ findings (pick_of cache.old.held) (entries_of assembly.now)) }
+    ensures shown { IfOk result (λ found. map shown_in found.items ≡ all_shown (manner_of cache.old) (entries_of assembly.now)) }
+    ensures within { IfOk result (λ found. All IsWithin found.items) }
+    ensures few { IfOk result (λ found. length found.items < 2 ^ 32) }
+    ensures runnable { IfOk result (λ _. AreRunnable assembly.now) }
+    ensures cache { OnOk result (cache.new ≡ with_judged cache.old (judged_keys (entries_of assembly.now))) }
+    ensures asked { Asks (asked_for cache.old (judged_keys (entries_of assembly.now))) result (D.asked finder.old) (D.asked finder.new) }
+{
+    let mut units = Units::of(alloc, assembly)?;
+    let mut found = Vec::new(alloc);
+    for index in 0..assembly.methods().len() {
+        found.push(find(alloc, &mut units, index, cache, finder)?)?;
+    }
+    Ok(found)
+}
+
+/// The same of an assembly that is looked at alone, without a cache file.
+pub fn find_alone<D: Finder>(
+    alloc: Global,
+    assembly: &Assembly<'_>,
+    show: bool,
+    finder: &mut D,
+) -> Result<Vec<Finding>, AllocError>
+    ensures value { IfOk result (λ found. map finding_in found.items ≡ findings limit_pick (entries_of assembly.now)) }
+    ensures shown { IfOk result (λ found. map shown_in found.items ≡ all_shown (limit_manner show) (entries_of assembly.now)) }
+    ensures within { IfOk result (λ found. All IsWithin found.items) }
+    ensures few { IfOk result (λ found. length found.items < 2 ^ 32) }
+    ensures runnable { IfOk result (λ _. AreRunnable assembly.now) }
+    ensures asked { Asks (units_asked assembly.now) result (D.asked finder.old) (D.asked finder.new) }
+{
+    let mut cache = VerdictCache::none(alloc, show);
+    find_all(alloc, assembly, &mut cache, finder)
+}
+
+/// The counts of a report of which these are the findings.
+pub fn count(found: &[Finding]) -> Counts
+    requires within { All IsWithin found.now }
+    requires few { length found.now < 2 ^ 32 }
+    ensures value { result ≡ found_counts (map finding_in found.now) }
+    ensures below { AreBelow (2 ^ 62) result }
+{
+    let mut counts = Counts::none();
+    for finding in found {
+        counts = counts.plus(finding.counts());
+    }
+    counts
+}
+
+/// Returns whether each method of which these are found is proved.
+fn are_proved(found: &[Finding]) -> bool
+    ensures { result ≡ list_all (λ finding. is_proved (finding_in finding)) found.now }
+{
+    found.iter().all(Finding::is_proved)
+}
+
+/// The status of a report with these findings.
+pub fn status_of(found: &[Finding]) -> u8
+    ensures { result ≡ (if list_all (λ finding. is_proved (finding_in finding)) found.now then 0 else 1) }
+{
+    if are_proved(found) { 0 } else { 1 }
+}
+
+/// The first line of a report.
+fn assembly_line(alloc: Global, name: &[u8]) -> Result<Vec<u8>, AllocError>
+    ensures { IfOk result (λ line. line.items ≡ assembly_line name.now) }
+{
+    let mut line = Vec::from_slice(alloc, b"assembly ")?;
+    append_escaped(alloc, &mut line, name)?;
+    line.extend_from_slice(b"\n")?;
+    Ok(line)
+}
+
+/// The lines of the report of an assembly of which these are the findings, in whatever manner these were found.
+#[tactic(auto, using(crate::proofs::ReportLines::found_are_entries), unfolding(crate::specs::CheckText::check_text))]
+fn check_lines(
+    alloc: Global,
+    name: &[u8],
+    assembly: &Assembly<'_>,
+    found: &[Finding],
+) -> Result<Vec<Vec<u8>>, AllocError>
+    requires within { All IsWithin found.now }
+    requires few { length found.now < 2 ^ 32 }
+    requires runnable { AreRunnable assembly.now }
+    ensures text { (manner : Manner) → map finding_in found.now ≡ findings manner.pick (entries_of assembly.now)
+        → map shown_in found.now ≡ all_shown manner (entries_of assembly.now)
+        → IfOk result (λ lines. joined lines.items ≡ check_text name.now manner assembly.now) }
+    ensures lines { IfOk result (λ lines. AreLines lines.items) }
+    ensures reportable { IfOk result (λ _. IsReportable assembly.now) }
+{
+    let mut lines = Vec::new(alloc);
+    lines.push(assembly_line(alloc, name)?)?;
+    append_findings(alloc, &mut lines, assembly.methods(), found)?;
+    lines.push(summary_line(alloc, count(found))?)?;
+    Ok(lines)
+}
+
+/// The report of an assembly: its lines, and the status of a call that makes it.
+#[derive(Drop)]
+pub struct ReportLines {
+    /// The lines, each with its line feed.
+    pub lines: Vec<Vec<u8>>,
+    /// 0 where each method is proved, and else 1.
+    pub status: u8,
+}
+
+/// Makes the report of an assembly whose file has this name.
+pub fn report_lines<D: Finder>(
+    alloc: Global,
+    name: &[u8],
+    assembly: &Assembly<'_>,
+    cache: &mut VerdictCache,
+    finder: &mut D,
+) -> Result<ReportLines, AllocError>
+    ensures status { IfOk result (λ report. report.status ≡ (if all_methods_proved (pick_of cache.old.held) assembly.now then 0 else 1)) }
+    ensures text { IfOk result (λ report. joined report.lines.items ≡ check_text name.now (manner_of cache.old) assembly.now) }
+    ensures lines { IfOk result (λ report. AreLines report.lines.items) }
+    ensures reportable { IfOk result (λ _. IsReportable assembly.now) }
+    ensures cache { OnOk result (cache.new ≡ with_judged cache.old (judged_keys (entries_of assembly.now))) }
+    ensures asked { Asks (asked_for cache.old (judged_keys (entries_of assembly.now))) result (D.asked finder.old) (D.asked finder.new) }
+{
+    let found = find_all(alloc, assembly, cache, finder)?;
+    let lines = check_lines(alloc, name, assembly, &found)?;
+    Ok(ReportLines {
+        lines,
+        status: status_of(&found),
+    })
+}
+
+/// The text of lines, one after another.
+fn text_of(alloc: Global, lines: &[Vec<u8>]) -> Result<Vec<u8>, AllocError>
+    ensures { IfOk result (λ text. text.items ≡ joined lines.now) }
+{
+    let mut text = Vec::new(alloc);
+    for line in lines {
+        text.extend_from_slice(line)?;
+    }
+    Ok(text)
+}
+
+/// The report of an assembly whose file has this name, as `check` writes it, with the invariants where these are shown.
+/// The finder is asked for an invariant of each unit that is judged, of equal units once.
+///
+/// Cost: that of `check`, and the text once more.
+pub fn report<D: Finder>(
+    alloc: Global,
+    name: &str,
+    assembly: &Assembly<'_>,
+    show: bool,
+    finder: &mut D,
+) -> Result<Vec<u8>, AllocError>
+    ensures value { IfOk result (λ text. text.items ≡ check_text name.now (limit_manner show) assembly.now) }
+    ensures asked { Asks (units_asked assembly.now) result (D.asked finder.old) (D.asked finder.new) }
+{
+    let found = find_alone(alloc, assembly, show, finder)?;
+    let lines = check_lines(alloc, name.as_bytes(), assembly, &found)?;
+    text_of(alloc, &lines)
+}

@@ -1,0 +1,28 @@
+-- What a finder is asked for. A unit is told by the whole bytes of its file.
+use Rattle.std.specs.Prelude.{◌≡◌, ℕ, not, List, [], ◌∷◌, ◌++◌, filter, Result, IfOk, if◌then◌else◌}
+use Rattle.result_cache.specs.Entries.{Entry, is_among, keys_of}
+
+-- ---- each once
+
+-- Those of the keys that are not seen yet, each once, in order.
+abbrev pub unseen : List (List ℕ) → List (List ℕ) → List (List ℕ)
+unseen seen [] = []
+unseen seen (key ∷ keys) = if is_among seen key then unseen seen keys else key ∷ unseen (seen ++ key ∷ []) keys
+
+abbrev pub distinct : List (List ℕ) → List (List ℕ)
+distinct keys = unseen [] keys
+
+-- Those of the keys for which a cache has no entry.
+abbrev pub without_entry : List Entry → List (List ℕ) → List (List ℕ)
+without_entry entries keys = filter (λ key. not (is_among (keys_of entries) key)) keys
+
+-- ---- what a finder was asked for
+
+-- A front of these was asked.
+abbrev pub AsksFront : List (List ℕ) → List (List ℕ) → List (List ℕ) → Type 0
+AsksFront keys old new = (front : List (List ℕ)) × ((rest : List (List ℕ)) × (keys ≡ front ++ rest)) × (new ≡ old ++ front)
+
+-- A call that gave this asked for these, or for a prefix of them where it was interrupted.
+pub record Asks {X E : Type 0} (keys : List (List ℕ)) (result : Result X E) (old new : List (List ℕ)) : Type 0 where
+  pub front : AsksFront keys old new
+  pub whole : IfOk result (λ _. new ≡ old ++ keys)

@@ -1,0 +1,132 @@
+//! Units, judged under what a finder answers or a cache file holds.
+
+ghost use Rattle.std.specs.Prelude.{◌≡◌, ◌≤◌, true, [], ◌∷◌, length, IfOk};
+ghost use Rattle.invariant_codec.specs.Invariants.{IsInvariant};
+ghost use Rattle.method_unit.specs.Units.{IsUnit};
+ghost use Rattle.state_facts.specs.Sizes.{AreSmall};
+ghost use Rattle.unit_flow.specs.Flow.{IsLawful};
+ghost use Rattle.unit_flow.specs.FlowOf.{flow_of};
+ghost use Rattle.unit_form.specs.Spelling.{unit_bytes};
+ghost use Rattle.unit_verdicts.specs.Asked.{Asks};
+ghost use Rattle.unit_verdicts.specs.Picks.{limit_manner, states_in};
+ghost use Rattle.unit_verdicts.specs.VerdictCache.{AreBytesOf};
+ghost use Rattle.unit_verdicts.specs.Verdicts.{AreVerdictsOf, AreVerdictsUnder};
+ghost use Rattle.widening_engine.specs.Limits.{limit_of};
+
+use crate::unit_verdicts::{UnitVerdicts, judge_under};
+use cil_model::{CalleeInfo, List};
+use invariant_codec::{read_states, states_bytes};
+use stack_typer::TypedUnit;
+use std::alloc::{AllocError, Global};
+use transfer_rules::Invariant;
+use unit_flow::UnitFlow;
+use widening_engine::Finder;
+
+/// The unit with its graph and its kinds.
+pub fn find_flow(alloc: Global, unit: TypedUnit) -> Result<UnitFlow, AllocError>
+    requires { IsUnit unit }
+    ensures flow { IfOk result (λ code. code ≡ flow_of unit) }
+    ensures unit { IfOk result (λ code. code.unit ≡ unit) }
+{
+    UnitFlow::of(alloc, unit)
+}
+
+/// The verdicts on a unit under the invariant that the finder answers, with the text of that where it is shown.
+pub fn judge_flow<D: Finder>(
+    alloc: Global,
+    code: &UnitFlow,
+    show: bool,
+    finder: &mut D,
+) -> Result<UnitVerdicts, AllocError>
+    requires unit { IsUnit code.now.unit }
+    requires flow { code.now ≡ flow_of code.now.unit }
+    ensures value { IfOk result (AreVerdictsOf (limit_manner show) code.now.unit) }
+    ensures asked { Asks (unit_bytes code.now.unit ∷ []) result (D.asked finder.old) (D.asked finder.new) }
+{
+    let invariant = finder.find(alloc, code)?;
+    judge_under(alloc, code, &invariant, show)
+}
+
+/// A unit that was judged, of which the rest is given up.
+#[derive(Drop)]
+pub struct JudgedUnit {
+    /// What the unit knows of the methods that it calls.
+    pub callees: List<CalleeInfo>,
+    /// The verdicts on it.
+    pub found: UnitVerdicts,
+}
+
+/// What is kept of a unit that was judged.
+#[derive(Drop)]
+pub struct CachedUnit {
+    /// The verdicts on it.
+    pub found: UnitVerdicts,
+    /// The bytes of what the finder answered, where these are to be kept, and else none.
+    pub invariant: Vec<u8>,
+}
+
+/// The bytes of an invariant, where they are to be kept.
+fn bytes_kept(alloc: Global, invariant: &Invariant, keeps: bool) -> Result<Vec<u8>, AllocError>
+    requires small { AreSmall invariant.now.states.items }
+    ensures { IfOk result (λ bytes. keeps ≡ true → AreBytesOf invariant.now.states.items bytes.items) }
+{
+    if keeps {
+        states_bytes(alloc, &invariant.states)
+    } else {
+        Ok(Vec::new(alloc))
+    }
+}
+
+/// Judges a unit under the invariant that the finder answers, and keeps the bytes of that or not.
+pub fn judge_found<D: Finder>(
+    alloc: Global,
+    code: &UnitFlow,
+    show: bool,
+    keeps: bool,
+    finder: &mut D,
+) -> Result<CachedUnit, AllocError>
+    requires lawful { IsLawful code.now }
+    ensures value { IfOk result (λ unit. AreVerdictsUnder show code.now (limit_of code.now) unit.found) }
+    ensures invariant { IfOk result (λ unit. keeps ≡ true → AreBytesOf (limit_of code.now) unit.invariant.items) }
+    ensures asked { Asks (unit_bytes code.now.unit ∷ []) result (D.asked finder.old) (D.asked finder.new) }
+{
+    let invariant = finder.find(alloc, code)?;
+    let found = judge_under(alloc, code, &invariant, show)?;
+    let bytes = bytes_kept(alloc, &invariant, keeps)?;
+    Ok(CachedUnit {
+        found,
+        invariant: bytes,
+    })
+}
+
+/// The invariant that these bytes spell.
+fn read_invariant(alloc: Global, bytes: &[u8]) -> Result<Invariant, AllocError>
+    requires short { length bytes.now ≤ 2147483647 }
+    requires invariant { IsInvariant bytes.now }
+    ensures { IfOk result (λ invariant. invariant.states.items ≡ states_in bytes.now) }
+{
+    match read_states(alloc, bytes) {
+        Ok(states) => Ok(Invariant { states }),
+        // Memory ran out, since the bytes have no fault.
+        Err(_) => Err(AllocError),
+    }
+}
+
+/// Judges a unit under the invariant that a cache file holds for it.
+pub fn judge_held(
+    alloc: Global,
+    code: &UnitFlow,
+    show: bool,
+    bytes: &[u8],
+) -> Result<CachedUnit, AllocError>
+    requires lawful { IsLawful code.now }
+    requires short { length bytes.now ≤ 2147483647 }
+    requires invariant { IsInvariant bytes.now }
+    ensures { IfOk result (λ unit. AreVerdictsUnder show code.now (states_in bytes.now) unit.found) }
+{
+    let invariant = read_invariant(alloc, bytes)?;
+    Ok(CachedUnit {
+        found: judge_under(alloc, code, &invariant, show)?,
+        invariant: Vec::new(alloc),
+    })
+}

@@ -1,0 +1,10 @@
+//! The verdicts on units, under what a cache holds for them or a finder answers.
+#![tactic(auto)]
+
+mod analysis;
+mod unit_verdicts;
+mod verdict_cache;
+
+pub use analysis::{JudgedUnit, find_flow, judge_flow};
+pub use unit_verdicts::{UnitVerdicts, judge_under};
+pub use verdict_cache::VerdictCache;

@@ -1,0 +1,237 @@
+//! The verdicts on the units that were judged in a call.
+
+ghost use Rattle.std.specs.Prelude.{◌≡◌, ◌++◌, Bool, true, false, [], ◌∷◌, is_some, IfOk, IfSome, OnOk};
+ghost use Rattle.method_unit.specs.UnitFile.{unit_of};
+ghost use Rattle.method_unit.specs.Units.{IsUnit};
+ghost use Rattle.result_cache.specs.Entries.{AreShort, is_among};
+ghost use Rattle.result_cache.specs.Spelling.{IsCacheFile, kept};
+ghost use Rattle.unit_flow.specs.FlowOf.{flow_of};
+ghost use Rattle.unit_form.specs.Spelling.{unit_bytes};
+ghost use Rattle.unit_form.specs.declared.form.UnitForm.TheVariants.{Second};
+ghost use Rattle.unit_verdicts.specs.Asked.{Asks, unseen, without_entry};
+ghost use Rattle.unit_verdicts.specs.CacheFile.{AreHonest, IsHonestFile, cache_left, entries_used};
+ghost use Rattle.unit_verdicts.specs.VerdictCache.{IsCached, manner_of};
+ghost use Rattle.unit_verdicts.specs.Verdicts.{AreVerdictsOf};
+
+use crate::analysis::{CachedUnit, JudgedUnit, find_flow, judge_found, judge_held};
+use crate::unit_verdicts::UnitVerdicts;
+use indexmap::IndexMap;
+use method_unit::unit_bytes;
+use result_cache::{Cache, Entries, cache_bytes};
+use stack_typer::TypedUnit;
+use std::alloc::{AllocError, Global};
+use std::marker::Model;
+use unit_flow::UnitFlow;
+use widening_engine::Finder;
+
+/// The verdicts on each unit that was judged, by the bytes of its file, beside the cache file that was read. Contracts
+/// see the entries of that, the bytes of the units in the order in which they came, whether invariants are shown, and
+/// whether a cache file is to be left.
+#[derive(Drop)]
+pub struct VerdictCache {
+    show: bool,
+    keeps: bool,
+    held: Cache,
+    judged: IndexMap<Vec<u8>, CachedUnit>,
+}
+
+impl Model for VerdictCache {
+    ghost use Rattle.unit_verdicts.specs.VerdictCache.{AreCached, CachedUnits, units_in};
+
+    ghost Value = { CachedUnits };
+
+    ghost view = { λ cache. units_in cache.show cache.keeps cache.held cache.judged.entries };
+
+    ghost invariant = { λ cache. AreCached cache.show cache.keeps cache.held cache.judged.entries };
+}
+
+impl VerdictCache {
+    /// No unit, and no cache file. Invariants will be shown or not.
+    pub fn none(alloc: Global, show: bool) -> VerdictCache
+        ensures show { result.show ≡ show }
+        ensures keeps { result.keeps ≡ false }
+        ensures held { result.held ≡ [] }
+        ensures keys { result.keys ≡ [] }
+    {
+        VerdictCache {
+            show,
+            keeps: false,
+            held: Cache::none(alloc),
+            judged: IndexMap::new(alloc),
+        }
+    }
+
+    /// No unit yet, over what a cache file holds. One is to be left.
+    pub fn over(alloc: Global, show: bool, held: Cache) -> VerdictCache
+        requires short { AreShort held }
+        ensures show { result.show ≡ show }
+        ensures keeps { result.keeps ≡ true }
+        ensures held { result.held ≡ held }
+        ensures keys { result.keys ≡ [] }
+    {
+        VerdictCache {
+            show,
+            keeps: true,
+            held,
+            judged: IndexMap::new(alloc),
+        }
+    }
+
+    /// Returns whether invariants are shown.
+    pub fn shows(&self) -> bool
+        ensures { result ≡ self.now.show }
+    {
+        self.show
+    }
+
+    /// The verdicts on the unit of these bytes, if it was judged.
+    fn get(&self, key: &[u8]) -> Option<&UnitVerdicts>
+        ensures there { is_some result ≡ is_among self.now.keys key.now }
+        ensures value { IfSome result (λ found. AreVerdictsOf (manner_of self.now) (unit_of key.now) found.now) }
+    {
+        match self.judged.get(key) {
+            Some(unit) => Some(&unit.found),
+            None => None,
+        }
+    }
+
+    /// Notes what is kept of the unit of these bytes.
+    fn note(&mut self, key: Vec<u8>, unit: CachedUnit) -> Result<(), AllocError>
+        requires new { is_among self.old.keys key.items ≡ false }
+        requires cached { IsCached self.old.show self.old.keeps self.old.held key.items unit }
+        ensures keys { OnOk result (self.new.keys ≡ self.old.keys ++ key.items ∷ []) }
+        ensures show { self.new.show ≡ self.old.show }
+        ensures keeps { self.new.keeps ≡ self.old.keeps }
+        ensures held { self.new.held ≡ self.old.held }
+    {
+        self.judged.insert(key, unit)?;
+        Ok(())
+    }
+
+    /// Judges the unit of these bytes under what the cache file holds for it, or else under what the finder answers.
+    fn judge_code<D: Finder>(
+        &self,
+        alloc: Global,
+        code: &UnitFlow,
+        key: &[u8],
+        finder: &mut D,
+    ) -> Result<CachedUnit, AllocError>
+        requires unit { IsUnit code.now.unit }
+        requires flow { code.now ≡ flow_of code.now.unit }
+        requires key { key.now ≡ unit_bytes code.now.unit }
+        ensures cached { IfOk result (IsCached self.now.show self.now.keeps self.now.held key.now) }
+        ensures asked { Asks (without_entry self.now.held (key.now ∷ [])) result
+            (D.asked finder.old) (D.asked finder.new) }
+    {
+        match self.held.get(key) {
+            Some(bytes) => judge_held(alloc, code, self.show, bytes),
+            None => judge_found(alloc, code, self.show, self.keeps, finder),
+        }
+    }
+
+    /// Judges a unit of these bytes that was not judged before.
+    fn judge_new<D: Finder>(
+        &mut self,
+        alloc: Global,
+        unit: TypedUnit,
+        key: Vec<u8>,
+        finder: &mut D,
+    ) -> Result<JudgedUnit, AllocError>
+        requires unit { IsUnit unit }
+        requires key { key.items ≡ unit_bytes unit }
+        requires new { is_among self.old.keys key.items ≡ false }
+        ensures callees { IfOk result (λ judged. judged.callees ≡ unit.callees) }
+        ensures value { IfOk result (λ judged. AreVerdictsOf (manner_of self.old) unit judged.found) }
+        ensures keys { OnOk result (self.new.keys ≡ self.old.keys ++ key.items ∷ []) }
+        ensures show { self.new.show ≡ self.old.show }
+        ensures keeps { self.new.keeps ≡ self.old.keeps }
+        ensures held { self.new.held ≡ self.old.held }
+        ensures asked { Asks (without_entry self.old.held (key.items ∷ [])) result
+            (D.asked finder.old) (D.asked finder.new) }
+    {
+        let code = find_flow(alloc, unit)?;
+        let judged = self.judge_code(alloc, &code, &key, finder)?;
+        let found = judged.found.copy(alloc)?;
+        self.note(key, judged)?;
+        Ok(JudgedUnit {
+            callees: code.unit.callees,
+            found,
+        })
+    }
+
+    /// Judges a unit: under what the cache file holds for it, or else under what the finder answers. That is asked only
+    /// where no equal unit was judged before.
+    ///
+    /// Cost: the unit's bytes are kept, with its verdicts, with the text of its invariant where that is shown, and with
+    /// the bytes of it where a cache file is to be left and the one that was read has none.
+    pub fn judge<D: Finder>(
+        &mut self,
+        alloc: Global,
+        unit: TypedUnit,
+        finder: &mut D,
+    ) -> Result<JudgedUnit, AllocError>
+        requires { IsUnit unit }
+        ensures callees { IfOk result (λ judged. judged.callees ≡ unit.callees) }
+        ensures value { IfOk result (λ judged. AreVerdictsOf (manner_of self.old) unit judged.found) }
+        ensures keys { OnOk result (self.new.keys ≡ self.old.keys ++ unseen self.old.keys (unit_bytes unit ∷ [])) }
+        ensures show { self.new.show ≡ self.old.show }
+        ensures keeps { self.new.keeps ≡ self.old.keeps }
+        ensures held { self.new.held ≡ self.old.held }
+        ensures asked { Asks (without_entry self.old.held (unseen self.old.keys (unit_bytes unit ∷ []))) result
+            (D.asked finder.old) (D.asked finder.new) }
+    {
+        let key = unit_bytes(alloc, unit.unit())?;
+        if let Some(known) = self.get(&key) {
+            let found = known.copy(alloc)?;
+            return Ok(JudgedUnit {
+                callees: unit.into_unit().callees,
+                found,
+            });
+        }
+        self.judge_new(alloc, unit, key, finder)
+    }
+
+    /// The cache file to be left: the units that were judged, in the order in which they came, each with the invariant
+    /// under which it was judged, up to the first with which the file would have more than 67,108,864 bytes.
+    ///
+    /// # Errors
+    ///
+    /// Want of memory.
+    ///
+    /// Cost: linear in the number of bytes. No invariant is copied but to the file.
+    pub fn cache_left(&self, alloc: Global) -> Result<Vec<u8>, AllocError>
+        requires { self.now.keeps ≡ true }
+        ensures value { IfOk result (λ bytes. bytes.items ≡ cache_left self.now.held self.now.keys) }
+        // It is a cache file, which can be read.
+        ensures file { IfOk result
+            (λ bytes. IsCacheFile Second (kept (entries_used self.now.held self.now.keys)) bytes.items) }
+        // It is honest where the one that was read was.
+        ensures honest { AreHonest self.now.held → IfOk result (λ bytes. IsHonestFile bytes.items) }
+    {
+        let _ = &self.judged;
+        cache_bytes(alloc, self)
+    }
+}
+
+impl Entries for VerdictCache {
+    ghost use Rattle.unit_verdicts.specs.VerdictCache.{entries_kept};
+
+    ghost entries = { entries_kept };
+
+    fn count(&self) -> usize {
+        if self.keeps { self.judged.len() } else { 0 }
+    }
+
+    fn entry_at(&self, place: usize) -> Option<(&[u8], &[u8])> {
+        if !self.keeps {
+            return None;
+        }
+        let Some((key, unit)) = self.judged.get_index(place) else {
+            return None;
+        };
+        match self.held.get(key) {
+            Some(invariant) => Some((key.as_slice(), invariant)),
+            None => Some((key.as_slice(), unit.invariant.as_slice())),
+        }
+    }
+}
