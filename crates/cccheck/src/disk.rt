@@ -3,10 +3,11 @@
 ghost use Rattle.std.specs.Prelude.{◌≡◌, None};
 ghost use Rattle.cc_base.specs.Counts.{Rose, Kept};
 
+use crate::replacing::replace;
 use cc_base::{Files, READ_LIMIT, ReadRefusal, ReplaceRefusal};
 use std::alloc::Global;
 use std::fs;
-use std::io::{self, ErrorKind, Read, Write};
+use std::io::{self, ErrorKind, Read};
 
 /// The files of the system. What they hold is not told.
 #[derive(Drop)]
@@ -54,13 +55,6 @@ fn read_cut(alloc: Global, rt: &impl fs::Files, name: &str) -> io::Result<Vec<u8
     Ok(bytes)
 }
 
-/// Writes the bytes under a name, in a file of their own that then takes the name.
-fn write_beside(alloc: Global, rt: &impl fs::Files, name: &str, bytes: &[u8]) -> io::Result<()> {
-    let beside = format!(in alloc; "{name}.new")?;
-    fs::write(rt, beside.as_str(), bytes)?;
-    fs::rename(rt, beside.as_str(), name)
-}
-
 impl<R: fs::Files + Drop> Files for Disk<R> {
     ghost held = { λ _. None };
 
@@ -76,8 +70,9 @@ impl<R: fs::Files + Drop> Files for Disk<R> {
     }
 
     fn replace(&mut self, alloc: Global, name: &str, bytes: &[u8]) -> Result<(), ReplaceRefusal> {
-        match write_beside(alloc, &self.rt, name, bytes) {
+        match replace(alloc, &self.rt, name, bytes) {
             Ok(()) => Ok(()),
+            Err(error) if error.kind() == ErrorKind::OutOfMemory => Err(ReplaceRefusal::NoMemory),
             Err(_) => {
                 self.faults = self.faults.saturating_add(1);
                 Err(ReplaceRefusal::Failed)

@@ -13,6 +13,7 @@ use stream::Stream;
 use widening_engine::Dirty;
 
 mod disk;
+mod replacing;
 mod stream;
 
 /// The words after the program's name. Where one of them is no text there are none.
