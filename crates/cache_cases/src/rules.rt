@@ -2,7 +2,8 @@
 
 use crate::files::{read_cache, reading, told_bytes};
 use cc_base::{NoMemory, put_number};
-use result_cache::{Cache, check_invariant};
+use invariant_codec::check_invariant;
+use result_cache::Cache;
 use rule_text::{Failure, Line, Rules, asked, check, check_yes, two_words};
 use std::alloc::Global;
 

@@ -13,8 +13,33 @@ pub fn two_parts<'a>(alloc: Global, field: Field<'a>) -> Result<(&'a str, &'a st
     }
 }
 
-/// The bytes that hexadecimal text spells.
+/// The bytes of a text of hexadecimal digits. Those in brackets stand after their number, which has four bytes.
 pub fn bytes_of(alloc: Global, line: u64, text: &str) -> Result<Vec<u8>, Stop> {
+    let Some((before, rest)) = text.split_once('[') else {
+        return spelled_bytes(alloc, line, text);
+    };
+    let mut bytes = spelled_bytes(alloc, line, before)?;
+    for part in rest.split('[') {
+        append_sized(alloc, &mut bytes, line, part)?;
+    }
+    Ok(bytes)
+}
+
+/// Appends the bytes before a closing bracket, after their number, and those behind it.
+fn append_sized(alloc: Global, bytes: &mut Vec<u8>, line: u64, text: &str) -> Result<(), Stop> {
+    let Some((sized, rest)) = text.split_once(']') else {
+        return Err(stop_at(alloc, line, "a bracket that is not closed"));
+    };
+    let sized = spelled_bytes(alloc, line, sized)?;
+    let rest = spelled_bytes(alloc, line, rest)?;
+    bytes.extend_from_slice(&(sized.len() as u64).to_le_bytes()[..4])?;
+    bytes.extend_from_slice(&sized)?;
+    bytes.extend_from_slice(&rest)?;
+    Ok(())
+}
+
+/// The bytes that hexadecimal text spells.
+fn spelled_bytes(alloc: Global, line: u64, text: &str) -> Result<Vec<u8>, Stop> {
     match bytes_of_hex(alloc, text)? {
         Some(bytes) => Ok(bytes),
         None => Err(stop_at(alloc, line, "not hexadecimal")),

@@ -5,22 +5,28 @@ ghost use Rattle.std.specs.Prelude.{Some, None};
 use cc_base::{Files, MapFiles, PutRefusal, ReadRefusal, ReplaceRefusal, Sink, VecSink};
 use std::alloc::Global;
 
-/// Files in memory of which some reads lack memory.
+/// Files in memory of which some reads and replacements lack memory.
 #[derive(Drop)]
 pub struct CaseFiles {
     pub files: MapFiles,
     /// The reads that lack memory, by their number from 1.
-    pub lacking: Vec<u64>,
+    pub lacking_reads: Vec<u64>,
     reads: u64,
+    /// The replacements that lack memory, by their number from 1.
+    pub lacking_replaces: Vec<u64>,
+    /// The number of replacements, also of those that were refused.
+    pub replaces: u64,
 }
 
 impl CaseFiles {
-    /// Creates files without a name, of which no read lacks memory.
+    /// Creates files without a name, of which no call lacks memory.
     pub fn new(alloc: Global) -> CaseFiles {
         CaseFiles {
             files: MapFiles::new(alloc),
-            lacking: Vec::new(alloc),
+            lacking_reads: Vec::new(alloc),
             reads: 0,
+            lacking_replaces: Vec::new(alloc),
+            replaces: 0,
         }
     }
 }
@@ -34,13 +40,17 @@ impl Files for CaseFiles {
 
     fn read(&mut self, alloc: Global, name: &str) -> Result<Vec<u8>, ReadRefusal> {
         self.reads = self.reads.saturating_add(1);
-        if self.lacking.contains(&self.reads) {
+        if self.lacking_reads.contains(&self.reads) {
             return Err(ReadRefusal::NoMemory);
         }
         self.files.read(alloc, name)
     }
 
     fn replace(&mut self, alloc: Global, name: &str, bytes: &[u8]) -> Result<(), ReplaceRefusal> {
+        self.replaces = self.replaces.saturating_add(1);
+        if self.lacking_replaces.contains(&self.replaces) {
+            return Err(ReplaceRefusal::NoMemory);
+        }
         self.files.replace(alloc, name, bytes)
     }
 }

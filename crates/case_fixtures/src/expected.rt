@@ -21,8 +21,10 @@ pub struct Expected {
     pub edges: Option<u64>,
     /// The line that asks whether `report` gives what was printed, where there is one.
     pub report: Option<u64>,
-    /// Files that hold other bytes after the call than before it.
+    /// Files that are replaced, or were to be: what each holds after the call.
     pub after: Vec<NamedFile>,
+    /// Names under which nothing is held after the call, though a file was to be put there.
+    pub after_none: Vec<String>,
 }
 
 impl Expected {
@@ -36,6 +38,7 @@ impl Expected {
             edges: None,
             report: None,
             after: Vec::new(alloc),
+            after_none: Vec::new(alloc),
         }
     }
 
@@ -58,6 +61,7 @@ impl Expected {
             "edges" => self.edges = Some(number_of(alloc, line, field.argument)? as u64),
             "report" => self.report = Some(line),
             "after" => self.take_after(alloc, field)?,
+            "after_none" => self.after_none.push(word_of(alloc, line, field.argument)?)?,
             _ => return Ok(false),
         }
         Ok(true)

@@ -144,7 +144,8 @@ impl Script {
         let (device, number) = two_parts(self.alloc, field)?;
         let number = number_of(self.alloc, field.line, number)? as u64;
         let numbers = match device {
-            "read" => &mut self.given.files.lacking,
+            "read" => &mut self.given.files.lacking_reads,
+            "replace" => &mut self.given.files.lacking_replaces,
             "out" => &mut self.out.lacking,
             "err" => &mut self.err.lacking,
             _ => return Err(stop_at(self.alloc, field.line, "an unknown device")),
@@ -157,7 +158,7 @@ impl Script {
     /// one to tell where the case has no better.
     fn call(&mut self, line: u64) -> Result<(), Stop> {
         self.given.close(self.alloc)?;
-        let replaces = self.given.files.files.replaces;
+        let replaces = self.given.files.replaces;
         let status = self.answer();
         let Some((line, wanted)) = self.expected.status else {
             return Err(stop_at(self.alloc, line, "the case has no status"));
@@ -241,15 +242,23 @@ impl Script {
         Ok(())
     }
 
-    /// Without lines that say what files hold after the call, none may be replaced.
+    /// Compares what files hold after the call with the lines that say so. The call may replace, or try to, no more
+    /// files than these lines, where so many had been before it.
     fn compare_files(&self, line: u64, replaces: u64) -> Result<(), Stop> {
-        let files = &self.given.files.files;
-        if self.expected.after.is_empty() && files.replaces != replaces {
+        let (after, after_none) = (&self.expected.after, &self.expected.after_none);
+        let told = after.len() as u64 + after_none.len() as u64;
+        if self.given.files.replaces.saturating_sub(replaces) > told {
             return Err(stop_at(self.alloc, line, "a file is replaced"));
         }
-        for file in &self.expected.after {
+        let files = &self.given.files.files;
+        for file in after {
             if files.get(file.name.as_str()) != Some(file.bytes.as_slice()) {
                 return Err(stop_at(self.alloc, line, "a file holds other bytes after the call"));
+            }
+        }
+        for name in after_none {
+            if files.get(name.as_str()).is_some() {
+                return Err(stop_at(self.alloc, line, "a file is held after the call"));
             }
         }
         Ok(())
