@@ -343,14 +343,28 @@ def cache_mutant(chance, caches, good, entries):
 # ---- what mutants are made of
 
 
+def case_bytes(text):
+    """The bytes that a case writes so: a word may be repeated, and what stands in brackets comes after its length."""
+    outer, inner = [], None
+    for word in text.replace("[", " [ ").replace("]", " ] ").split():
+        if word == "[":
+            inner = []
+        elif word == "]":
+            data = b"".join(inner)
+            outer, inner = [*outer, struct.pack("<I", len(data)), data], None
+        else:
+            digits, _, times = word.partition("*")
+            (outer if inner is None else inner).append(bytes.fromhex(digits) * int(times or 1))
+    return b"".join(outer)
+
+
 def case_files():
     """The files of the cases of the whole program."""
     found = {}
     for path in sorted(glob.glob(f"{TOP}/crates/program_cases/data/*.cases")):
         with open(path, encoding="utf-8") as it:
             for text in re.findall(r"^file \S+ (.{6,20000})$", it.read(), re.M):
-                words = [word.partition("*") for word in text.split()]
-                found[b"".join(bytes.fromhex(word) * int(times or 1) for word, _, times in words)] = None
+                found[case_bytes(text)] = None
     return [data for data in found if len(data) <= MOST_BYTES]
 
 

@@ -1,5 +1,5 @@
 -- What is met under the names of a call's files and of its cache, as these are read.
-use Rattle.std.proofs.Common.{◌≡◌, ℕ, ◌<◌, List, Vec, Global, Option, Some, None, Result, Ok, Err, refl, sym, ap, subst, ◌∙◌, inl, inr, option_map}
+use Rattle.std.proofs.Common.{◌≡◌, ℕ, ◌<◌, List, Vec, Global, Option, Some, None, Result, Ok, Err, refl, subst, inl, inr, option_map}
 use Rattle.std.specs.Prelude.{All, Contains, IfSome}
 use Rattle.cc_base.specs.Counts.{Kept, Rose}
 use Rattle.cc_base.specs.Files.{Held}
@@ -9,7 +9,7 @@ use Rattle.command_words.proofs.UsedIndexes.{cache_used, files_used}
 use Rattle.command_words.specs.declared.command.Command.{Command}
 use Rattle.check_driver.specs.CacheMet.{CallMet, IsCacheUnder, IsMet, command_cache}
 use Rattle.check_driver.specs.CallRead.{IsReadIndex, ReadsCall, ReadsItsCache, cache_bytes}
-use Rattle.check_driver.specs.Met.{AreUnder, IsCacheContent, IsUnder, Reads, ReadsCache}
+use Rattle.check_driver.specs.Met.{AreUnder, IsCacheContent, Reads}
 use Rattle.check_driver.specs.declared.inputs.Inputs.{Inputs}
 use Rattle.check_driver.specs.declared.reading.Unread.{Unread}
 use Rattle.check_driver.specs.declared.reading.Unread.TheVariants as unread
@@ -22,26 +22,6 @@ Read = Option (Vec ℕ Global)
 
 abbrev pub ReadsOwn : Option Held → List (List ℕ) → Command → Type 0 → Result Read Unread → Type 0
 ReadsOwn told words command failed r = (under : Option (List ℕ)) × IsCacheUnder told (command_cache words command) under × ReadsItsCache command under failed r
-
-cache_reads : (command : Command) (index : ℕ) (under : Option (List ℕ)) (failed : Type 0) (r : Result Read Unread) → Some index ≡ cache_index command → ReadsCache index under failed r
-    → ReadsItsCache command under failed r
-cache_reads command index under failed (Ok read) named is = is
-cache_reads command index under failed (Err (unread.Missing at)) named is = absurd is
-cache_reads command index under failed (Err (unread.Failed at)) named is = (is.0, sym named ∙ ap (λ (i : ℕ). Some i) (sym is.1))
-cache_reads command index under failed (Err unread.NoMemory) named is = tt
-
--- The cache that a word names was read.
-pub own_read : (told : Option Held) (words : List (List ℕ)) (command : Command) (index : ℕ) (failed : Type 0) (r : Result Read Unread) → Some index ≡ cache_index command
-    → (under : Option (List ℕ)) × IsUnder told (word_at words index) under × ReadsCache index under failed r → ReadsOwn told words command failed r
-own_read told words command index failed r named (under, is, read) = (
-  under,
-  subst (λ (cache : Option ℕ). IsCacheUnder told (option_map (word_at words) cache) under) named is,
-  cache_reads command index under failed r named read,
-)
-
--- There is none.
-pub none_read : (told : Option Held) (words : List (List ℕ)) (command : Command) (failed : Type 0) → None ≡ cache_index command → ReadsOwn told words command failed (Ok None)
-none_read told words command failed none = (None, subst (λ (cache : Option ℕ). IsCacheUnder told (option_map (word_at words) cache) None) none refl, refl)
 
 -- Something is met under the name of a cache.
 any_cache : (told : Option Held) (name : Option (List ℕ)) → (under : Option (List ℕ)) × IsCacheUnder told name under

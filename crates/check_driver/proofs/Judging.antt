@@ -27,10 +27,6 @@ same_units a b show keeps held its =
     ∙ ap (λ (h : List Entry). record { show = b.show; keeps = b.keeps; held = h; keys = a.keys }) held
     ∙ ap (with_keys b) its
 
-pub judged_parts : (old new : CachedUnits) (keys : Keys) → new.show ≡ old.show → new.keeps ≡ old.keeps → new.held ≡ old.held → new.keys ≡ old.keys ++ unseen old.keys keys
-    → new ≡ with_judged old keys
-judged_parts old new keys show keeps held its = same_units new (with_judged old keys) show keeps held its
-
 -- The cache of a check before its first unit.
 pub begun_none : (check : CheckWords) (met : Option (List ℕ)) (cache : CachedUnits) → met ≡ None → None ≡ check.cache → cache.show ≡ is_some check.show → cache.keeps ≡ false
     → cache.held ≡ [] → cache.keys ≡ [] → cache ≡ begun_units check met

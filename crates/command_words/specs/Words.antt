@@ -98,8 +98,8 @@ abbrev pub are_few : List (List ℕ) → Bool
 are_few words =
     nat_le (count_by is_show words) 1 && nat_le (count_by is_cache words) 1 && nat_le 1 (file_count words) && nat_le (file_count words) MAX_FILES
 
--- The words after `check`, in any order: 1 to 64 files, at most one `--show`, and at most one `--cache` with the name of a
--- cache after it, which none of the files has.
+-- Words are those of a check where each may stand there, none of a kind stands there too often, and the cache has a name
+-- of its own.
 abbrev pub are_check_words : List (List ℕ) → Bool
 are_check_words words = list_all is_check_word words && are_few words && is_own_name words (cache_place words)
 

@@ -73,8 +73,8 @@ impl Cache {
     ///
     /// The first fault in the order of the file, or memory ran out.
     ///
-    /// Cost: linear in the number of bytes, but for what is sorted of each invariant, and what it costs to read a unit
-    /// of the first form. A count takes no memory before the entries that it counts are there.
+    /// Cost: linear in the number of bytes, but for what it costs to read a unit of the first form. A count takes no
+    /// memory before the entries that it counts are there; an entry takes some 110 bytes beside its own.
     pub fn read(alloc: Global, bytes: &[u8]) -> Result<Cache, CacheRefusal>
         // It is read where no test of the list fails; a fault is that of the first test that does.
         ensures judged { JudgesOrNoMemory result (first_cache_fault bytes.now) (λ cache. cache ≡ entries_of bytes.now) }
@@ -86,6 +86,7 @@ impl Cache {
         // The first form of a unit stands for its key in the second form, and nothing else does.
         ensures first { (unit : MethodUnit) → IsUnit unit → HasCounts First unit →
             second_key (unit_spelling First unit) ≡ Some (unit_bytes unit) }
+        // Each invariant is short enough to be read.
         ensures short { IfOk result AreShort }
         ensures firsts { IfOk result (λ _. form_of bytes.now ≡ First → AreFirst (entries_standing bytes.now)) }
     {
