@@ -12,7 +12,7 @@ use Rattle.invariant_text.specs.StateText.{state_lines}
 use Rattle.invariant_text.proofs.LineReading.{line_kind}
 use Rattle.invariant_text.proofs.StateReading.{state_read}
 
-line_of_block : (at : ℕ) (reached : Bool) (r : List ℕ)
+pub line_of_block : (at : ℕ) (reached : Bool) (r : List ℕ)
     → block_line at reached ++ r ≡ codes "  block " ++ (label at ++ (block_end reached ++ r))
 unfolding block_line
 line_of_block at reached r =
@@ -23,7 +23,7 @@ line_of_block at reached r =
 block_later : (at : ℕ) (reached : Bool) (r : List ℕ) → 6 < line_kind (block_line at reached ++ r)
 block_later at reached r = rw (line_of_block at reached r) (omega arith)
 
-blocks_later : (unit : MethodUnit) (blocks : List ℕ) (states : List State)
+pub blocks_later : (unit : MethodUnit) (blocks : List ℕ) (states : List State)
     → 6 < line_kind (invariant_text unit blocks states)
 blocks_later unit [] states = omega arith
 blocks_later unit (at ∷ blocks) [] = omega arith
@@ -34,7 +34,7 @@ blocks_later unit (at ∷ blocks) (Some known ∷ states) =
     (block_later at true (state_lines unit known ++ rest))
 
 -- A block where nothing is reached differs from any other.
-unreached_other : (at : ℕ) (r q : List ℕ) → block_line at false ++ r ≡ block_line at true ++ q → ⊥
+pub unreached_other : (at : ℕ) (r q : List ℕ) → block_line at false ++ r ≡ block_line at true ++ q → ⊥
 unreached_other at r q same =
     let behind = append_cancel_left (label at) (block_end false ++ r) (block_end true ++ q)
     (ap (drop 8) (sym (line_of_block at false r) ∙ same ∙ line_of_block at true q)) in

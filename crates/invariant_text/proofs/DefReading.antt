@@ -42,13 +42,13 @@ reference_read (suc m) (suc n) r q m_fits n_fits r_none q_none same =
 -- ---- operators
 
 -- What stands between two expressions.
-data Operator : Type 0 where
+pub data Operator : Type 0 where
   Equal : Operator
   Less : Operator
   LessUnsigned : Operator
   Minus : Operator
 
-abbrev operator_text : Operator → List ℕ
+abbrev pub operator_text : Operator → List ℕ
 operator_text Equal = codes " == "
 operator_text Less = codes " < "
 operator_text LessUnsigned = codes " <u "
@@ -73,20 +73,20 @@ operator_told Less text = refl
 operator_told LessUnsigned text = refl
 operator_told Minus text = refl
 
-operator_no_digit : (o : Operator) (text : List ℕ) → begins_digit (operator_text o ++ text) ≡ false
+pub operator_no_digit : (o : Operator) (text : List ℕ) → begins_digit (operator_text o ++ text) ≡ false
 operator_no_digit Equal text = refl
 operator_no_digit Less text = refl
 operator_no_digit LessUnsigned text = refl
 operator_no_digit Minus text = refl
 
-operator_first : (o : Operator) (text : List ℕ) → get_or (operator_text o ++ text) 0 0 ≡ 32
+pub operator_first : (o : Operator) (text : List ℕ) → get_or (operator_text o ++ text) 0 0 ≡ 32
 operator_first Equal text = refl
 operator_first Less text = refl
 operator_first LessUnsigned text = refl
 operator_first Minus text = refl
 
 -- An operator, an expression, and the end of the line.
-abbrev operated : Operator → Expr → List ℕ → List ℕ
+abbrev pub operated : Operator → Expr → List ℕ → List ℕ
 operated o b r = operator_text o ++ (expr_text b ++ 10 ∷ r)
 
 operated_read : (o p : Operator) (b d : Expr) (r q : List ℕ) → IsSmall b → IsSmall d → operated o b r ≡ operated p d q
@@ -103,7 +103,7 @@ operated_read o p b d r q b_small d_small same =
 -- ---- a constant, or a difference
 
 -- The text is that of a constant behind a sign, and goes on.
-abbrev is_constant : List ℕ → Bool
+abbrev pub is_constant : List ℕ → Bool
 is_constant text = begins_digit text && get_or (behind_digits text) 0 0 == 32
 
 -- What is added to the first of two expressions: nothing is 0, more is 1, less is 2. A number that ends the line is the
@@ -114,7 +114,7 @@ added_first text =
     else if get_or text 1 0 == 45 && is_constant (drop 3 text) then 2
     else 0
 
-last_no_constant : (s : ℕ) (k : ℤ) (r : List ℕ) → mag k < 2 ^ 63
+pub last_no_constant : (s : ℕ) (k : ℤ) (r : List ℕ) → mag k < 2 ^ 63
     → is_constant (expr_text (record { sym = s; k = k }) ++ 10 ∷ r) ≡ false
 last_no_constant zero (pos n) r fits =
     let small : n < 2 ^ 64 = omega (arith, fits) in
@@ -191,7 +191,7 @@ both_read o p a b c d r q a_small b_small c_small d_small same =
 
 -- ---- null tests
 
-abbrev null_words : Bool → List ℕ
+abbrev pub null_words : Bool → List ℕ
 null_words is_null = if is_null then codes " is null" else codes " is not null"
 
 words_read : (a b : Bool) (r q : List ℕ) → null_words a ++ 10 ∷ r ≡ null_words b ++ 10 ∷ q → (a ≡ b) × (r ≡ q)
@@ -200,7 +200,7 @@ words_read false true r q same = absurd (omega (arith, ap (λ (text : List ℕ).
 words_read true false r q same = absurd (omega (arith, ap (λ (text : List ℕ). get_or text 5 0) same))
 words_read true true r q same = (refl, ap (drop 9) same)
 
-words_no_digit : (a : Bool) (r : List ℕ) → begins_digit (null_words a ++ r) ≡ false
+pub words_no_digit : (a : Bool) (r : List ℕ) → begins_digit (null_words a ++ r) ≡ false
 words_no_digit false r = refl
 words_no_digit true r = refl
 

@@ -37,11 +37,11 @@ use Rattle.invariant_text.proofs.ValueReading.{IsSmallVar, value_read}
 -- ---- which kind a line is of
 
 -- What stands behind the digits of a symbol, by its second byte: a range is 2, a bound 4, a definition 5.
-abbrev symbol_kind : ℕ → ℕ
+abbrev pub symbol_kind : ℕ → ℕ
 symbol_kind c = if c == 105 then 2 else if c == 61 then 5 else 4
 
 -- Variables are 1, references 3, and two that are apart 6.
-abbrev inner_kind : List ℕ → ℕ
+abbrev pub inner_kind : List ℕ → ℕ
 inner_kind text =
     if get_or text 0 0 == 115
     then (if get_or text 1 0 == 116 then 1 else symbol_kind (get_or (behind_digits (drop 1 text)) 1 0))
@@ -91,7 +91,7 @@ name_inner args locals i r =
     named_inner (nat_lt i args) (nat_lt (i - args) args) (nat_lt (i - args - args) locals) i (i - args)
     (i - args - args) (i - args - args - locals) r
 
-variable_parts : (unit : MethodUnit) (i : ℕ) (v : Var) (r : List ℕ) → variable_line unit i v ++ r
+pub variable_parts : (unit : MethodUnit) (i : ℕ) (v : Var) (r : List ℕ) → variable_line unit i v ++ r
     ≡ 32 ∷ 32 ∷ 32 ∷ 32 ∷ (variable_name (length unit.args) (length unit.locals) i
     ++ (codes " = " ++ (value_text v ++ 10 ∷ r)))
 unfolding variable_line
@@ -114,7 +114,7 @@ variable_read unit i v w r q first second same =
 
 -- ---- ranges of symbols
 
-symbol_parts : (n : ℕ) (range : Interval) (r : List ℕ)
+pub symbol_parts : (n : ℕ) (range : Interval) (r : List ℕ)
     → symbol_line n range ++ r ≡ 32 ∷ 32 ∷ 32 ∷ 32 ∷ 115 ∷ decimal n ++ (codes " in " ++ (range_text range ++ 10 ∷ r))
 unfolding symbol_line
 symbol_parts n range r = three_parts (symbol_text n) (codes " in ") (range_text range) r
@@ -143,10 +143,10 @@ pub record IsSmallRow (row : BoundRow) : Type 0 where
   pub to : row.t < 2 ^ 64
   pub constant : mag row.k < 2 ^ 63
 
-abbrev lower : BoundRow → Expr
+abbrev pub lower : BoundRow → Expr
 lower row = record { sym = row.s; k = row.k }
 
-row_parts : (row : BoundRow) (r : List ℕ)
+pub row_parts : (row : BoundRow) (r : List ℕ)
     → bound_line row ++ r ≡ 32 ∷ 32 ∷ 32 ∷ 32 ∷ (expr_text (lower row)
     ++ (codes " <= " ++ (symbol_text row.t ++ 10 ∷ r)))
 unfolding bound_line
@@ -200,7 +200,7 @@ row_read a b r q first second same =
 abbrev pub IsSmallDefinition : ℕ × Def → Type 0
 IsSmallDefinition d = (d.0 < 2 ^ 64) × IsSmallDef d.1
 
-definition_parts : (d : ℕ × Def) (r : List ℕ)
+pub definition_parts : (d : ℕ × Def) (r : List ℕ)
     → definition_line d ++ r ≡ 32 ∷ 32 ∷ 32 ∷ 32 ∷ 115 ∷ decimal d.0 ++ (codes " = " ++ (def_text d.1 ++ 10 ∷ r))
 unfolding definition_line
 definition_parts d r = three_parts (symbol_text d.0) (codes " = ") (def_text d.1) r
@@ -224,7 +224,7 @@ definition_read d e r q first second same =
 abbrev pub IsSmallPair : Pair → Type 0
 IsSmallPair p = (p.0 < 2 ^ 64) × (p.1 < 2 ^ 64)
 
-apart_parts : (p : Pair) (r : List ℕ)
+pub apart_parts : (p : Pair) (r : List ℕ)
     → apart_line p ++ r ≡ 32 ∷ 32 ∷ 32 ∷ 32 ∷ (reference_text p.0
     ++ (codes " apart " ++ (reference_text p.1 ++ 10 ∷ r)))
 unfolding apart_line
@@ -271,7 +271,7 @@ place_told places.Int r = refl
 place_told places.Bools r = refl
 place_told places.Ints r = refl
 
-place_second : (p : Place) (r : List ℕ) → (get_or (place_text p ++ r) 0 0 == 97) ≡ false
+pub place_second : (p : Place) (r : List ℕ) → (get_or (place_text p ++ r) 0 0 == 97) ≡ false
 place_second places.Void r = refl
 place_second places.Bool r = refl
 place_second places.Int r = refl
@@ -300,12 +300,12 @@ nullness_read a b r q same =
     (is, append_cancel_left (nullness_text a) r q (same ∙ ap (λ (n : Nullness). nullness_text n ++ q) (sym is)))
 
 -- What stands behind the number of a reference.
-abbrev told_of : Known → List ℕ → List ℕ
+abbrev pub told_of : Known → List ℕ → List ℕ
 told_of known r =
     32 ∷ (place_text known.0.place ++ 32 ∷ (nullness_text known.0.nullness
     ++ (codes " length " ++ (expr_text known.0.length ++ (segments_text known.1 ++ 10 ∷ r)))))
 
-known_parts : (n : ℕ) (known : Known) (r : List ℕ)
+pub known_parts : (n : ℕ) (known : Known) (r : List ℕ)
     → reference_line n known.0 known.1 ++ r ≡ 32 ∷ 32 ∷ 32 ∷ 32 ∷ (reference_text n ++ told_of known r)
 unfolding reference_line known_text
 known_parts n known r =
@@ -338,7 +338,7 @@ pub known_kind : (n : ℕ) (known : Known) (r : List ℕ) → 0 < n → n < 2 ^ 
     → line_kind (reference_line n known.0 known.1 ++ r) ≡ 3
 known_kind n known r some fits = rw (known_parts n known r) (known_inner n known r some fits)
 
-segments_end : (s : Segments) (r : List ℕ) → EndsExpr (segments_text s ++ r)
+pub segments_end : (s : Segments) (r : List ℕ) → EndsExpr (segments_text s ++ r)
 segments_end s r =
     rw (segments_parts s r, bound_parts (get_or s.bounds 0 []) _) (record { no_digit = refl; not_added = refl })
 

@@ -20,16 +20,16 @@ pub record EndsRange (text : List ℕ) : Type 0 where
   pub no_digit : begins_digit text ≡ false
   pub no_hole : begins_hole text ≡ false
 
-int32_small : (z : ℤ) → LEAST ≤ℤ z → z ≤ℤ GREATEST → mag z < 2 ^ 63
+pub int32_small : (z : ℤ) → LEAST ≤ℤ z → z ≤ℤ GREATEST → mag z < 2 ^ 63
 int32_small (pos n) least greatest = omega (arith, ints, greatest)
 int32_small (negsuc n) least greatest = omega (arith, ints, least)
 
 -- The hole is an int32.
-abbrev IsSmallHole : Option ℤ → Type 0
+abbrev pub IsSmallHole : Option ℤ → Type 0
 IsSmallHole None = Unit {0}
 IsSmallHole (Some hole) = mag hole < 2 ^ 63
 
-hole_no_digit : (h : Option ℤ) (r : List ℕ) → begins_digit r ≡ false → begins_digit (hole_text h ++ r) ≡ false
+pub hole_no_digit : (h : Option ℤ) (r : List ℕ) → begins_digit r ≡ false → begins_digit (hole_text h ++ r) ≡ false
 hole_no_digit None r none = none
 hole_no_digit (Some h) r none = refl
 
@@ -44,14 +44,14 @@ hole_read (Some g) (Some h) r q g_fits h_fits r_ends q_ends same =
     let read = signed_read g h r q g_fits h_fits r_ends.no_digit q_ends.no_digit (ap (drop 5) same) in
     (ap (λ (n : ℤ). Some n) read.0, read.1)
 
-small_hole : (lo hi : ℤ) (h : Option ℤ) (range : Interval) → range ≡ record { lo = lo; hi = hi; hole = h }
+pub small_hole : (lo hi : ℤ) (h : Option ℤ) (range : Interval) → range ≡ record { lo = lo; hi = hi; hole = h }
     → IsNarrow range → IsSmallHole h
 small_hole lo hi None range is narrow = tt
 small_hole lo hi (Some h) range is narrow =
     let n = rw is at narrow in
     int32_small h (omega (arith, ints, n.least, n.inner)) (omega (arith, ints, n.greatest, n.inner))
 
-range_parts : (range : Interval) (r : List ℕ)
+pub range_parts : (range : Interval) (r : List ℕ)
     → range_text range ++ r ≡ signed_decimal range.lo ++ 46 ∷ 46
     ∷ (signed_decimal range.hi ++ (hole_text range.hole ++ r))
 unfolding range_text

@@ -17,7 +17,7 @@ use Rattle.invariant_text.proofs.RangeReading.{EndsRange, range_read}
 
 -- ---- expressions with commas between
 
-abbrev begins_with : ℕ → List ℕ → Bool
+abbrev pub begins_with : ℕ → List ℕ → Bool
 begins_with c text = get_or text 0 0 == c
 
 next_exprs_read : AreRead (λ (n : ℕ) (e : Expr). next_expr e) (λ n e. IsSmall e) EndsExpr (begins_with 44)
@@ -28,7 +28,7 @@ next_exprs_read = record {
       (ap (drop 2) same);
 }
 
-next_end : (es : List Expr) (r : List ℕ) → EndsExpr (flat_map next_expr es ++ 125 ∷ r)
+pub next_end : (es : List Expr) (r : List ℕ) → EndsExpr (flat_map next_expr es ++ 125 ∷ r)
 next_end [] r = record { no_digit = refl; not_added = refl }
 next_end (e ∷ es) r = record { no_digit = refl; not_added = refl }
 
@@ -71,17 +71,17 @@ bound_read x y r q x_small y_small same =
 -- ---- segments
 
 -- What the items are in, the mark, and the bound where it ends.
-abbrev Segment : Type 0
+abbrev pub Segment : Type 0
 Segment = Interval × (Bool × List Expr)
 
-abbrev text_of : Segment → List ℕ
+abbrev pub text_of : Segment → List ℕ
 text_of s = segment_text s.0 s.1.0 s.1.1
 
 -- The range is one of int32, and the bound's numbers have 64 bits.
-abbrev IsSmallSegment : Segment → Type 0
+abbrev pub IsSmallSegment : Segment → Type 0
 IsSmallSegment s = IsNarrow s.0 × (Unit {0} × IsSmallBound s.1.1)
 
-segment_parts : (s : Segment) (r : List ℕ)
+pub segment_parts : (s : Segment) (r : List ℕ)
     → text_of s ++ r ≡ 32 ∷ (range_text s.0 ++ (mark_text s.1.0 ++ (bound_text s.1.1 ++ r)))
 unfolding segment_text
 segment_parts s r =
@@ -89,7 +89,7 @@ segment_parts s r =
     ∙ append_assoc (codes " " ++ range_text s.0) (mark_text s.1.0) (bound_text s.1.1 ++ r)
     ∙ append_assoc (codes " ") (range_text s.0) (mark_text s.1.0 ++ (bound_text s.1.1 ++ r))
 
-range_ends : (mark : Bool) (bound : List Expr) (r : List ℕ) → EndsRange (mark_text mark ++ (bound_text bound ++ r))
+pub range_ends : (mark : Bool) (bound : List Expr) (r : List ℕ) → EndsRange (mark_text mark ++ (bound_text bound ++ r))
 range_ends true bound r = record { no_digit = refl; no_hole = refl }
 range_ends false bound r = rw (bound_parts bound r) (record { no_digit = refl; no_hole = refl })
 
@@ -138,36 +138,36 @@ each_zipped (c ∷ contents) (m ∷ marks) [] = refl
 each_zipped (c ∷ contents) (m ∷ marks) (e ∷ ends) =
     ap (λ (text : List ℕ). segment_text c m e ++ text) (each_zipped contents marks ends)
 
-zip_length : {X Y : Type 0} (xs : List X) (ys : List Y) (n : ℕ) → length xs ≡ n → length ys ≡ n → length (zip xs ys) ≡ n
+pub zip_length : {X Y : Type 0} (xs : List X) (ys : List Y) (n : ℕ) → length xs ≡ n → length ys ≡ n → length (zip xs ys) ≡ n
 zip_length xs ys n x_count y_count = omega (arith, length-zip xs ys, x_count, y_count)
 
-any_marks : (marks : List Bool) → AllByRecursion (λ m. Unit {0}) marks
+pub any_marks : (marks : List Bool) → AllByRecursion (λ m. Unit {0}) marks
 any_marks [] = tt
 any_marks (m ∷ marks) = (tt, any_marks marks)
 
-first_and_others : (bounds : List (List Expr)) (n : ℕ) → length bounds ≡ n + 1
+pub first_and_others : (bounds : List (List Expr)) (n : ℕ) → length bounds ≡ n + 1
     → bounds ≡ get_or bounds 0 [] ∷ drop 1 bounds
 first_and_others [] n counted = absurd (omega (arith, counted))
 first_and_others (b ∷ bounds) n counted = refl
 
-others_count : (bounds : List (List Expr)) (n : ℕ) → length bounds ≡ n + 1 → length (drop 1 bounds) ≡ n
+pub others_count : (bounds : List (List Expr)) (n : ℕ) → length bounds ≡ n + 1 → length (drop 1 bounds) ≡ n
 others_count [] n counted = absurd (omega (arith, counted))
 others_count (b ∷ bounds) n counted = omega (arith, counted)
 
-first_small : (bounds : List (List Expr)) (n : ℕ) → length bounds ≡ n + 1 → AllByRecursion IsSmallBound bounds
+pub first_small : (bounds : List (List Expr)) (n : ℕ) → length bounds ≡ n + 1 → AllByRecursion IsSmallBound bounds
     → IsSmallBound (get_or bounds 0 [])
 first_small [] n counted all = absurd (omega (arith, counted))
 first_small (b ∷ bounds) n counted all = all.0
 
-others_small : (bounds : List (List Expr)) → AllByRecursion IsSmallBound bounds
+pub others_small : (bounds : List (List Expr)) → AllByRecursion IsSmallBound bounds
     → AllByRecursion IsSmallBound (drop 1 bounds)
 others_small [] all = tt
 others_small (b ∷ bounds) all = all.1
 
-abbrev each_of : Segments → List Segment
+abbrev pub each_of : Segments → List Segment
 each_of s = zip s.contents (zip s.marks (drop 1 s.bounds))
 
-each_small : (s : Segments) → IsSmallSegments s → AllByRecursion IsSmallSegment (each_of s)
+pub each_small : (s : Segments) → IsSmallSegments s → AllByRecursion IsSmallSegment (each_of s)
 each_small s small =
     all_zip IsNarrow (λ (p : Bool × List Expr). Unit {0} × IsSmallBound p.1) s.contents (zip s.marks (drop 1 s.bounds))
     small.narrow

@@ -33,24 +33,24 @@ lines_zipped n (known ∷ references) (s ∷ contents) =
     ap (λ (text : List ℕ). reference_line n known s ++ text) (lines_zipped (n + 1) references contents)
 
 -- What follows the lines of each kind.
-abbrev behind_definitions : StateFacts → List ℕ → List ℕ
+abbrev pub behind_definitions : StateFacts → List ℕ → List ℕ
 behind_definitions known r = numbered (λ (n : ℕ) (p : Pair). apart_line p) 0 known.apart ++ r
 
-abbrev behind_bounds : StateFacts → List ℕ → List ℕ
+abbrev pub behind_bounds : StateFacts → List ℕ → List ℕ
 behind_bounds known r =
     numbered (λ (n : ℕ) (d : ℕ × Def). definition_line d) 0 known.facts.definitions ++ behind_definitions known r
 
-abbrev behind_references : StateFacts → List ℕ → List ℕ
+abbrev pub behind_references : StateFacts → List ℕ → List ℕ
 behind_references known r =
     numbered (λ (n : ℕ) (row : BoundRow). bound_line row) 0 known.facts.bounds ++ behind_bounds known r
 
-abbrev behind_ranges : StateFacts → List ℕ → List ℕ
+abbrev pub behind_ranges : StateFacts → List ℕ → List ℕ
 behind_ranges known r = numbered known_line 1 (zip known.references known.contents) ++ behind_references known r
 
-abbrev behind_variables : StateFacts → List ℕ → List ℕ
+abbrev pub behind_variables : StateFacts → List ℕ → List ℕ
 behind_variables known r = numbered symbol_line 1 known.facts.ranges ++ behind_ranges known r
 
-state_parts : (unit : MethodUnit) (known : StateFacts) (r : List ℕ)
+pub state_parts : (unit : MethodUnit) (known : StateFacts) (r : List ℕ)
     → state_lines unit known ++ r ≡ numbered (variable_line unit) 0 known.variables ++ behind_variables known r
 unfolding state_lines
 state_parts unit known r =
@@ -71,15 +71,15 @@ state_parts unit known r =
     ++ (flat_numbered apart_line 0 known.apart i ++ r))))))
 
 -- The lines of each kind have numbers whose texts are read.
-record AreSmall (known : StateFacts) : Type 0 where
-  variables : AllFrom (λ n v. IsSmallVar v) 0 known.variables
-  ranges : AllFrom IsNarrowAt 1 known.facts.ranges
-  references : AllFrom IsKnownAt 1 (zip known.references known.contents)
-  bounds : AllFrom (λ n row. IsSmallRow row) 0 known.facts.bounds
-  definitions : AllFrom (λ n d. IsSmallDefinition d) 0 known.facts.definitions
-  apart : AllFrom (λ n p. IsSmallPair p) 0 known.apart
+pub record AreSmall (known : StateFacts) : Type 0 where
+  pub variables : AllFrom (λ n v. IsSmallVar v) 0 known.variables
+  pub ranges : AllFrom IsNarrowAt 1 known.facts.ranges
+  pub references : AllFrom IsKnownAt 1 (zip known.references known.contents)
+  pub bounds : AllFrom (λ n row. IsSmallRow row) 0 known.facts.bounds
+  pub definitions : AllFrom (λ n d. IsSmallDefinition d) 0 known.facts.definitions
+  pub apart : AllFrom (λ n p. IsSmallPair p) 0 known.apart
 
-are_small : (known : StateFacts) → IsPrintable known → AreSmall known
+pub are_small : (known : StateFacts) → IsPrintable known → AreSmall known
 are_small known p =
     let symbols = length known.facts.ranges in
     let references = length known.references in
@@ -98,15 +98,15 @@ are_small known p =
     }
 
 -- The kinds of lines rise.
-record Rises (known : StateFacts) (r : List ℕ) : Type 0 where
-  variables : 1 < line_kind (behind_variables known r)
-  ranges : 2 < line_kind (behind_ranges known r)
-  references : 3 < line_kind (behind_references known r)
-  bounds : 4 < line_kind (behind_bounds known r)
-  definitions : 5 < line_kind (behind_definitions known r)
-  apart : 6 < line_kind r
+pub record Rises (known : StateFacts) (r : List ℕ) : Type 0 where
+  pub variables : 1 < line_kind (behind_variables known r)
+  pub ranges : 2 < line_kind (behind_ranges known r)
+  pub references : 3 < line_kind (behind_references known r)
+  pub bounds : 4 < line_kind (behind_bounds known r)
+  pub definitions : 5 < line_kind (behind_definitions known r)
+  pub apart : 6 < line_kind r
 
-rises : (known : StateFacts) (r : List ℕ) → AreSmall known → 6 < line_kind r → Rises known r
+pub rises : (known : StateFacts) (r : List ℕ) → AreSmall known → 6 < line_kind r → Rises known r
 rises known r small apart =
     let definitions = section_least (λ (n : ℕ) (p : Pair). apart_line p) (λ n p. IsSmallPair p) 6 apart_section 0
     known.apart r small.apart apart in

@@ -32,11 +32,11 @@ number_no_reference e n r q small same =
 -- ---- addresses
 
 -- The index of an address, and what is behind it.
-abbrev index_text : Expr → List ℕ → List ℕ
+abbrev pub index_text : Expr → List ℕ → List ℕ
 index_text e r = 91 ∷ (expr_text e ++ 93 ∷ r)
 
 -- It stands behind the reference.
-address_parts : (n : ℕ) (e : Expr) (r : List ℕ) → address_text n e ++ r ≡ reference_text n ++ index_text e r
+pub address_parts : (n : ℕ) (e : Expr) (r : List ℕ) → address_text n e ++ r ≡ reference_text n ++ index_text e r
 unfolding address_text
 address_parts n e r =
     append_assoc (reference_text n ++ codes "[" ++ expr_text e) (codes "]") r

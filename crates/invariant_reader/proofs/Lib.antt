@@ -1,0 +1,17 @@
+pub mod PrefixLemmas
+pub mod NumberReads
+pub mod ExprReads
+pub mod RangeReads
+pub mod DefinitionReads
+pub mod VariableReads
+pub mod SmallCode
+pub mod Repeats
+pub mod SegmentLoops
+pub mod SegmentReads
+pub mod ArrayReads
+pub mod SectionLoops
+pub mod CodeStates
+pub mod StateSteps
+pub mod SeenStates
+pub mod BlockReads
+pub mod Reading

@@ -1,0 +1,31 @@
+use Rattle.std.proofs.Common.{◌≡◌, List, ℕ, Some, None, ap, sym, ◌∙◌}
+use Rattle.invariant_reader.specs.BlockReaders.{line_front}
+use Rattle.invariant_reader.specs.Prefixes.{behind}
+use Rattle.invariant_reader.proofs.BlockReads.{end_missed, front_missed, reached_read, unreached_read}
+use Rattle.invariant_reader.proofs.blocks.read_reached.Goals as goal
+
+pub returns-in_default : goal.returns-in_default
+returns-in_default c =
+    let front = c.deref.ensures.value ∙ c.in_ok-front.ensures in
+    front_missed c.args.at c.args.text.now
+    (c.in_default.ensures ∙ ap (λ (prefix : List ℕ). behind prefix c.args.text.now) front)
+
+pub returns-in-Some-behind : goal.returns-in-Some-behind
+returns-in-Some-behind c =
+    let front = c.deref.ensures.value ∙ c.in_ok-front.ensures in
+    reached_read c.args.at c.args.text.now c.in-Some.left.now c.in-Some-behind.left.now
+    (c.in-Some.ensures ∙ ap (λ (prefix : List ℕ). behind prefix c.args.text.now) front) c.in-Some-behind.ensures
+
+pub returns-in_default-behind-2 : goal.returns-in_default-behind-2
+returns-in_default-behind-2 c =
+    let front = c.deref.ensures.value ∙ c.in_ok-front.ensures in
+    end_missed c.args.at c.args.text.now c.in-Some.left.now
+    (c.in-Some.ensures ∙ ap (λ (prefix : List ℕ). behind prefix c.args.text.now) front)
+    c.in_default-behind.ensures c.in_default-behind-2.ensures
+
+pub returns : goal.returns
+returns c =
+    let front = c.deref.ensures.value ∙ c.in_ok-front.ensures in
+    unreached_read c.args.at c.args.text.now c.in-Some.left.now c.in-Some-behind-2.left.now
+    (c.in-Some.ensures ∙ ap (λ (prefix : List ℕ). behind prefix c.args.text.now) front)
+    c.in_default-behind.ensures c.in-Some-behind-2.ensures
