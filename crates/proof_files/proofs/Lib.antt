@@ -1,0 +1,12 @@
+pub mod HexLemmas
+pub mod HexReading
+pub mod LineLemmas
+pub mod CutScan
+pub mod EntryLemmas
+pub mod EntryReading
+pub mod UnitLines
+pub mod KeyLemmas
+pub mod UnderWay
+pub mod KeptLemmas
+pub mod ReadOnce
+pub mod ProofAnswers
