@@ -83,3 +83,24 @@ owner_stop md row k rise begins lt past =
 pub owner_done : (md : List ℕ) (row k : ℕ) → Begins md k row → k ≡ type_count md → k ≡ owner md row
 unfolding owner
 owner_done md row k begins is = sym (rw (← is) (owner-here md row k begins))
+
+-- ---- the same, sought by halving
+
+-- The runs of the types after this one begin after the method.
+abbrev pub BeginLater : List ℕ → ℕ → ℕ → Type 0
+BeginLater md last row = (type : ℕ) → last < type → type ≤ type_count md → row < method_list md type
+
+pub none_later : (md : List ℕ) (row : ℕ) → BeginLater md (type_count md) row
+none_later md row type low high = absurd (omega arith)
+
+pub later_from : (md : List ℕ) (row middle : ℕ) → RunsRise md → 1 ≤ middle → row < method_list md middle → BeginLater md (middle - 1) row
+later_from md row middle rise some past type low high =
+    let up = rise middle type some (omega arith) high in
+    omega (arith, up, past)
+
+pub owner_halved : (md : List ℕ) (row k : ℕ) → Begins md k row → k ≤ type_count md → BeginLater md k row → k ≡ owner md row
+unfolding owner
+owner_halved md row k begins there later =
+    let all : k + (type_count md - k) ≡ type_count md = omega arith in
+    sym (subst (λ (n : ℕ). owner_among md row n ≡ k) all
+    (owner-more md row k (type_count md - k) begins (λ j low high. later j low (omega arith))))

@@ -1,5 +1,5 @@
 -- What the cells of types and methods say (ECMA-335 II.22.26 and II.22.37).
-use Rattle.std.specs.Prelude.{ℕ, zero, suc, ◌≤◌, List, [], Result, Ok, Err, unwrap_or, nat_le, false, if◌then◌else◌}
+use Rattle.std.specs.Prelude.{ℕ, zero, suc, ◌≤◌, List, [], Option, Result, Ok, Err, unwrap_or, nat_le, false, if◌then◌else◌}
 use Rattle.metadata_tables.specs.Heaps.{string_at, blob_at, blob_offset}
 use Rattle.metadata_tables.specs.Layout.{row_count, cell}
 use Rattle.metadata_tables.specs.Numbers.{type_def, type_def_name, type_def_namespace, type_def_method_list, method_def, method_def_name, method_def_signature}
@@ -19,7 +19,10 @@ method_count md = row_count md method_def
 abbrev pub HasRow : List ℕ → ℕ → ℕ → Type 0
 HasRow md table row = (1 ≤ row) × (row ≤ row_count md table)
 
--- The text that a cell names, where there is one.
+-- The text that a cell names, where there is one, and the same with an empty one in place of none.
+abbrev pub text_at : List ℕ → ℕ → ℕ → ℕ → Option (List ℕ)
+text_at md table row column = string_at md (cell md table row column)
+
 abbrev pub text : List ℕ → ℕ → ℕ → ℕ → List ℕ
 text md table row column = unwrap_or (string_at md (cell md table row column)) []
 

@@ -8,3 +8,4 @@ pub mod Reading
 pub mod Rows
 pub mod Bodies
 pub mod Tokens
+pub mod Members

@@ -1,6 +1,6 @@
 //! Whole assemblies.
 
-ghost use Rattle.std.specs.Prelude.{◌≡◌, ◌++◌, None, Some, Err, IfOk};
+ghost use Rattle.std.specs.Prelude.{◌≡◌, ◌++◌, None, Some, Err, IfOk, option_map};
 ghost use Rattle.cc_base.specs.Tests.{JudgesOrNoMemory};
 ghost use Rattle.cc_base.specs.declared.refusal.Refusal.TheVariants.{Bad};
 ghost use Rattle.pe_reader.specs.Addresses.{metadata};
@@ -9,6 +9,7 @@ ghost use Rattle.asm_image.specs.Bodies.{method_of};
 ghost use Rattle.asm_image.specs.Calls.{callee_of};
 ghost use Rattle.asm_image.specs.Faults.{FirstBroken};
 ghost use Rattle.asm_image.specs.Find.{either, one_more, find_of, whole_of, short_of};
+ghost use Rattle.asm_image.specs.Members.{assembly_name, key_of, member_of, class_of, name_of_method};
 ghost use Rattle.asm_image.specs.Reading.{Reads};
 ghost use Rattle.asm_image.specs.Rows.{methods_of, named};
 ghost use Rattle.asm_image.specs.declared.fault.AsmFault.{AsmFault};
@@ -18,9 +19,10 @@ use crate::assembly_file::AssemblyFile;
 use crate::callee::Callee;
 use crate::fault::AsmRefusal;
 use crate::found::Found;
+use crate::members::Member;
 use crate::method_row::{Method, MethodRow};
 use crate::name_table::{NameTable, short_name};
-use crate::{calls, tokens};
+use crate::{calls, members, tokens};
 use cc_base::Token;
 use cil_model::{List, Place};
 use metadata_tables::table::METHOD_DEF;
@@ -218,5 +220,39 @@ impl<'a> Assembly<'a> {
         ensures { result ≡ callee_of (metadata self.now) token.0 }
     {
         calls::callee_of(self.file.metadata(), token)
+    }
+    /// The name of the assembly (II.22.2), as it is stored: that of the first row of the table Assembly. None where
+    /// there is no such row, or where its text is not there.
+    pub fn assembly_name(&self) -> Option<&'a [u8]>
+        ensures { option_map (λ name. name.now) result ≡ assembly_name (metadata self.now) }
+    {
+        members::assembly_name(self.file.metadata())
+    }
+
+    /// The method of another assembly that a token names: a row of the table MemberRef whose parent is a TypeRef with
+    /// an AssemblyRef as its scope. None where it is no such row, or where a name or the signature does not read.
+    pub fn member_of(&self, token: Token) -> Option<Member<'a>>
+        ensures { option_map key_of result ≡ member_of (metadata self.now) token.0 }
+    {
+        members::member_of(self.file.metadata(), token)
+    }
+
+    /// Namespace and name of the type of the method that a token of MethodDef names, as they are stored. Both are
+    /// empty where the method has no type, or where there is no such method.
+    ///
+    /// Cost: logarithmic in the number of types.
+    pub fn class_of(&self, token: Token) -> (&'a [u8], &'a [u8])
+        ensures namespace { result.0.now ≡ (class_of (metadata self.now) token.0).namespace }
+        ensures name { result.1.now ≡ (class_of (metadata self.now) token.0).name }
+    {
+        members::class_of(self.file.metadata(), token)
+    }
+
+    /// The name of the method that a token of MethodDef names, as it is stored, without its type. It is empty where
+    /// there is no such method.
+    pub fn method_name(&self, token: Token) -> &'a [u8]
+        ensures { result.now ≡ name_of_method (metadata self.now) token.0 }
+    {
+        members::method_name(self.file.metadata(), token)
     }
 }

@@ -123,6 +123,7 @@ impl<'a> AssemblyFile<'a> {
     pub(crate) fn metadata(&self) -> &Metadata<'a>
         ensures bytes { result.now.bytes ≡ metadata self.now }
         ensures accepted { FirstBroken self.now ≡ None }
+        ensures rise { RunsRise result.now.bytes }
     {
         &self.metadata
     }

@@ -146,7 +146,13 @@ fn is_contract_class(metadata: &Metadata<'_>, row: u32) -> bool
 
 /// The row of a table that a coded index names.
 #[tactic(auto, unfolding(crate::specs::Calls::tagged_row))]
-fn tagged_row(metadata: &Metadata<'_>, table: u8, tag: u32, tags: u32, index: u32) -> Option<u32>
+pub fn tagged_row(
+    metadata: &Metadata<'_>,
+    table: u8,
+    tag: u32,
+    tags: u32,
+    index: u32,
+) -> Option<u32>
     requires { 1 ≤ tags }
     ensures row { result ≡ tagged_row metadata.now.bytes table tag tags index }
     ensures there { IfSome result (λ row. HasRow metadata.now.bytes table row) }

@@ -2,13 +2,13 @@
 
 #![tactic(auto, using(metadata_tables::proofs::ColumnLemmas::known_columns))]
 
-ghost use Rattle.std.specs.Prelude.{◌≡◌, ◌+◌, ◌*◌, ◌^◌, ◌<◌, ◌≤◌, ⊤, length, slice_index_or};
+ghost use Rattle.std.specs.Prelude.{◌≡◌, ◌+◌, ◌*◌, ◌^◌, ◌<◌, ◌≤◌, ⊤, length, option_map, slice_index_or};
 ghost use Rattle.std.specs.Str.{bytes_eq};
 ghost use Rattle.cc_base.specs.Tests.{Judges};
 ghost use Rattle.cil_model.specs.Limits.{MAX_FILE_BYTES};
 ghost use Rattle.metadata_tables.specs.Layout.{row_count, cell};
 ghost use Rattle.metadata_tables.specs.Schema.{columns_of};
-ghost use Rattle.asm_image.specs.Cells.{HasRow, text, blob};
+ghost use Rattle.asm_image.specs.Cells.{HasRow, text, text_at, blob};
 ghost use Rattle.asm_image.specs.Faults.{heap_end, index_out, text_test};
 
 use crate::fault::{AsmFault, Cause};
@@ -115,6 +115,15 @@ impl<'a> Metadata<'a> {
         } else {
             Err(self.heap_end(table, row, column))
         }
+    }
+
+    /// The text that a cell names, none where there is none.
+    pub fn text_at(&self, table: u8, row: u32, column: u8) -> Option<&'a [u8]>
+        requires row { HasRow self.now.bytes table row }
+        requires column { column < length (columns_of table) }
+        ensures { option_map (λ text. text.now) result ≡ text_at self.now.bytes table row column }
+    {
+        self.tables.string_at(self.cell(table, row, column))
     }
 
     /// The text that a cell names, empty where there is none.

@@ -72,3 +72,24 @@ pub fn owner_of(metadata: &Metadata<'_>, from: u32, row: u32) -> u32
     }
     owner
 }
+
+/// The type that owns a method, sought among all. It answers 0 where the method belongs to no type.
+///
+/// Cost: logarithmic in the number of types.
+pub fn found_owner(metadata: &Metadata<'_>, row: u32) -> u32
+    requires { RunsRise metadata.now.bytes }
+    ensures owner { result ≡ owner metadata.now.bytes row }
+    ensures type_there { result ≤ type_count metadata.now.bytes }
+{
+    let mut owner = 0;
+    let mut last = metadata.row_count(TYPE_DEF);
+    while owner < last {
+        let middle = last - (last - owner) / 2;
+        if metadata.cell(TYPE_DEF, middle, TYPE_DEF_METHOD_LIST) <= row {
+            owner = middle;
+        } else {
+            last = middle - 1;
+        }
+    }
+    owner
+}

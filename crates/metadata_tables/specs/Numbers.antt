@@ -94,6 +94,9 @@ generic_param_constraint = 0x2c
 -- ---- columns, each under its table's name
 
 -- II.22.38
+abbrev pub type_ref_scope : ℕ
+type_ref_scope = 0
+
 abbrev pub type_ref_name : ℕ
 type_ref_name = 1
 
@@ -146,3 +149,11 @@ method_spec_method = 0
 
 abbrev pub method_spec_instantiation : ℕ
 method_spec_instantiation = 1
+
+-- II.22.2
+abbrev pub assembly_name : ℕ
+assembly_name = 7
+
+-- II.22.5
+abbrev pub assembly_ref_name : ℕ
+assembly_ref_name = 6

@@ -1,6 +1,9 @@
 //! The columns that a reader of assemblies names, counted from 0. Each name begins with its table's.
 
-/// TypeName of TypeRef (II.22.38), in the heap `#Strings`.
+/// ResolutionScope of TypeRef (II.22.38), a coded index.
+pub const TYPE_REF_SCOPE: u8 = 0;
+
+/// TypeName of TypeRef, in the heap `#Strings`.
 pub const TYPE_REF_NAME: u8 = 1;
 
 /// TypeNamespace of TypeRef, in the heap `#Strings`.
@@ -47,3 +50,9 @@ pub const METHOD_SPEC_METHOD: u8 = 0;
 
 /// Instantiation of MethodSpec, in the heap `#Blob`.
 pub const METHOD_SPEC_INSTANTIATION: u8 = 1;
+
+/// Name of Assembly (II.22.2), in the heap `#Strings`.
+pub const ASSEMBLY_NAME: u8 = 7;
+
+/// Name of AssemblyRef (II.22.5), in the heap `#Strings`.
+pub const ASSEMBLY_REF_NAME: u8 = 6;
