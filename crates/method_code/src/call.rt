@@ -5,7 +5,7 @@
 pub enum Call {
     /// A method of which units may have an entry among their callees, by its key: a number that this method has and no
     /// other one.
-    Callee(u32),
+    Callee(u64),
     /// A method of the class `Contract`, by the number that its calls have in units.
     Contract(u32),
     /// Anything else, or nothing.

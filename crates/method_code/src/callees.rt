@@ -12,7 +12,7 @@ use std::alloc::Global;
 use std::marker::Model;
 
 /// The key of the method that a call calls, where units may have an entry of it.
-fn callee_key(call: Call) -> Option<u32>
+fn callee_key(call: Call) -> Option<u64>
     ensures { result ≡ callee_key call }
 {
     match call {
@@ -22,7 +22,7 @@ fn callee_key(call: Call) -> Option<u32>
 }
 
 /// The same for an operation.
-fn called_by_op<T: Tokens>(tokens: &T, op: &Op) -> Option<u32>
+fn called_by_op<T: Tokens>(tokens: &T, op: &Op) -> Option<u64>
     ensures { result ≡ called_by_op (T.meaning tokens.now) op.now }
 {
     match op {
@@ -57,7 +57,7 @@ fn called_by_op<T: Tokens>(tokens: &T, op: &Op) -> Option<u32>
 /// The methods that code calls, each once, in order of first use. Contracts see their keys.
 #[derive(Drop)]
 pub struct CalleeSet {
-    set: IndexSet<u32>,
+    set: IndexSet<u64>,
 }
 
 impl Model for CalleeSet {
@@ -85,7 +85,7 @@ impl CalleeSet {
     }
 
     /// The place of a method among them, by its key.
-    pub fn index_of(&self, key: u32) -> Option<usize>
+    pub fn index_of(&self, key: u64) -> Option<usize>
         ensures index { result ≡ position (λ callee. callee == key) self.now }
         ensures within { IfSome result (λ index. index < length self.now) }
     {
@@ -93,7 +93,7 @@ impl CalleeSet {
     }
 
     /// Their keys.
-    pub fn keys(&self) -> &[u32]
+    pub fn keys(&self) -> &[u64]
         ensures { result.now ≡ self.now }
     {
         self.set.as_slice()

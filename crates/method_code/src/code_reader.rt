@@ -34,7 +34,7 @@ pub struct MethodCode {
     /// The instructions. The operands of calls, of new arrays, of items' addresses and of texts are numbers of the unit.
     pub instrs: List<Instr>,
     /// The keys of the methods that the code calls, each once, in order of first use.
-    pub callees: List<u32>,
+    pub callees: List<u64>,
     /// The clauses and the start of the body, or the first fault of the clauses.
     pub contracts: Result<Contracts, ClauseFault>,
     /// Where there is no fault: whether each clause is a number.

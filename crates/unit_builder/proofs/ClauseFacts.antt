@@ -1,6 +1,8 @@
 -- What callers know of a method keeps the limits and has kinds.
 use Rattle.std.proofs.Common.{◌≡◌, ℕ, true, ◌&&◌, List, [], ◌∷◌, map, filter_map, refl, sym, ap, subst, ◌∙◌, arith}
-use Rattle.std.specs.Prelude.{Option, Some, None, Result, Ok, Err, is_none}
+use Rattle.std.specs.Prelude.{Option, Some, None, Result, Ok, Err, IfOk, is_none}
+use Rattle.std.specs.declared.alloc.Global.{Global}
+use Rattle.std.specs.declared.vec.Vec.{Vec}
 use Rattle.std.specs.List.{AllByRecursion, list_all}
 use Rattle.std.proofs.lemmas.Bool.{and_parts, cond_both}
 use Rattle.std.proofs.lemmas.Option.{none-some}
@@ -20,10 +22,10 @@ use Rattle.method_code.specs.OfMethods.{args_of, bare_shape, clauses_of as claus
 use Rattle.method_code.specs.Reading.{AreContractsOf, IsCodeOf}
 use Rattle.method_code.specs.declared.code_reader.MethodCode.{MethodCode}
 use Rattle.method_unit.specs.UnitFile.{clause_told}
+use Rattle.unit_builder.specs.Scopes.{Scope}
 use Rattle.unit_builder.proofs.SlotFacts.{faulty_clauses}
 use Rattle.unit_builder.specs.Bodies.{clauses_of}
 use Rattle.unit_builder.specs.Making.{AreKnownOf}
-use Rattle.unit_builder.specs.Meanings.{meaning_of}
 use Rattle.unit_builder.specs.Slots.{IsWhole, TellsClauses}
 use Rattle.unit_builder.specs.declared.slots.Slot.{Slot}
 use Rattle.unit_builder.specs.declared.slots.Slot.TheVariants.{Unread, Faulty, Whole, Spent}
@@ -78,27 +80,32 @@ known_within method is read judged =
     (told_within method is fault read judged (none_of fault both.0), numbers_told (bare_shape method) (told_clauses is) both.1))
     (λ e. (no_limits, tt))
 
-instrs_there : (asm : List ℕ) (method : MethodRow) (code : MethodCode) → IsCodeOf (meaning_of asm) asm method code → instrs_of (meaning_of asm) asm method ≡ Some code.instrs
+instrs_there : (s : Scope) (method : MethodRow) (code : MethodCode) → IsCodeOf s.meaning s.asm method code → instrs_of s.meaning s.asm method ≡ Some code.instrs
 unfolding instrs_of
-instrs_there asm method code of = rw (of.own, of.faultless) (ap Some (sym of.read_of.instrs))
+instrs_there s method code of = rw (of.own, of.faultless) (ap Some (sym of.read_of.instrs))
 
-code_known : (asm : List ℕ) (method : MethodRow) (code : MethodCode) → IsWhole asm method code → MayBeKnown method (clauses_of asm method)
+code_known : (s : Scope) (method : MethodRow) (code : MethodCode) → IsWhole s method code → MayBeKnown method (clauses_of s method)
 unfolding clauses_with
-code_known asm method code whole =
-    rw (instrs_there asm method code whole.code_is) (known_within method code.instrs code.contracts whole.code_is.read_of.contracts)
+code_known s method code whole =
+    rw (instrs_there s method code whole.code_is) (known_within method code.instrs code.contracts whole.code_is.read_of.contracts)
 
-slot_known : (asm : List ℕ) (method : MethodRow) (slot : Slot) → TellsClauses asm method slot → MayBeKnown method (clauses_of asm method)
-slot_known asm method Unread told = absurd told
-slot_known asm method (Faulty fault) told = rw (faulty_clauses asm method fault told) (no_limits, tt)
-slot_known asm method (Whole code) told = code_known asm method code told
-slot_known asm method (Spent code) told = code_known asm method _ told.whole
+slot_known : (s : Scope) (method : MethodRow) (slot : Slot) → TellsClauses s method slot → MayBeKnown method (clauses_of s method)
+slot_known s method Unread told = absurd told
+slot_known s method (Faulty fault) told = rw (faulty_clauses s method fault told) (no_limits, tt)
+slot_known s method (Whole code) told = code_known s method code told
+slot_known s method (Spent code) told = code_known s method _ told.whole
 
 -- Copies of what callers know by a slot.
-pub known_of : (asm : List ℕ) (method : MethodRow) (slot : Slot) (clauses : List Clause) → TellsClauses asm method slot → clauses ≡ clauses_of asm method → AllByRecursion HasInts clauses
+pub known_of : (s : Scope) (method : MethodRow) (slot : Slot) (clauses : List Clause) → TellsClauses s method slot → clauses ≡ clauses_of s method → AllByRecursion HasInts clauses
     → AreKnownOf method clauses
-known_of asm method slot clauses told same ints =
-    let known = subst (MayBeKnown method) (sym same) (slot_known asm method slot told) in
+known_of s method slot clauses told same ints =
+    let known = subst (MayBeKnown method) (sym same) (slot_known s method slot told) in
     record { limits = known.0; ints = ints; numbers = known.1 }
+
+pub known_result : {E : Type 0} (r : Result (Vec Clause Global) E) (s : Scope) (method : MethodRow) (slot : Slot) → TellsClauses s method slot
+    → IfOk r (λ clauses. clauses.items ≡ clauses_of s method) → IfOk r (λ clauses. AllByRecursion HasInts clauses.items) → IfOk r (λ clauses. AreKnownOf method clauses.items)
+known_result (Ok clauses) s method slot told same ints = known_of s method slot clauses.items told same ints
+known_result (Err error) s method slot told same ints = tt
 
 pub none_known : (method : MethodRow) → AreKnownOf method []
 none_known method = record { limits = no_limits; ints = tt; numbers = tt }

@@ -2,7 +2,6 @@
 use Rattle.std.proofs.Common.{◌≡◌, ℕ, List, [], map, refl, sym, ap, ap₂, subst, ◌∙◌}
 use Rattle.std.specs.Prelude.{Option, Some, None, Result, Ok, Err, option_map, unwrap_or}
 use Rattle.asm_image.specs.declared.method_row.MethodRow.{MethodRow}
-use Rattle.cc_base.specs.declared.token.Token.{Token}
 use Rattle.cc_base.specs.Tests.{first_of, Judges}
 use Rattle.cc_base.proofs.TestLemmas.{first_of-none}
 use Rattle.cil_model.specs.ShortCode.{AreOfShortCode}
@@ -17,9 +16,9 @@ use Rattle.method_code.specs.Numbering.{numbered}
 use Rattle.method_code.specs.OfMethods.{bare_shape, code_of}
 use Rattle.method_code.specs.Reading.{AreContractsOf, AreDecodedAs}
 use Rattle.method_code.specs.declared.code_reader.MethodCode.{MethodCode}
-use Rattle.unit_builder.specs.Bodies.{callee_tokens, code_told, decoded_instrs, il_fault, unit_instrs}
+use Rattle.unit_builder.specs.Scopes.{Scope}
+use Rattle.unit_builder.specs.Bodies.{callee_keys, code_told, decoded_instrs, il_fault, unit_instrs}
 use Rattle.unit_builder.specs.Making.{IsOwnCode}
-use Rattle.unit_builder.specs.Meanings.{as_token, meaning_of}
 use Rattle.unit_builder.specs.Reasons.{code_tests, own_tests, unit_shape}
 use Rattle.unit_builder.specs.Slots.{IsWhole}
 use Rattle.unit_builder.specs.declared.reason.Reason.{Reason}
@@ -27,28 +26,28 @@ use Rattle.unit_builder.specs.declared.reason.Reason.TheVariants.{Clauses, Code}
 use Rattle.unit_builder.specs.declared.own_code.OwnCode.{OwnCode}
 
 -- The code that was read is that of the unit.
-pub record IsUnitCode (asm : List ℕ) (method : MethodRow) (code : MethodCode) : Type 0 where
-  pub instrs : code.instrs ≡ unit_instrs asm method
-  pub callees : map as_token code.callees ≡ callee_tokens asm method
-  pub decoded : AreDecodedAs (code_told asm method) (unit_instrs asm method)
-  pub contracts : Judges code.contracts (first_clause_fault (unit_instrs asm method) (unit_shape asm method)) (AreContractsOf method (unit_instrs asm method))
+pub record IsUnitCode (s : Scope) (method : MethodRow) (code : MethodCode) : Type 0 where
+  pub instrs : code.instrs ≡ unit_instrs s method
+  pub callees : code.callees ≡ callee_keys s method
+  pub decoded : AreDecodedAs (code_told s.asm method) (unit_instrs s method)
+  pub contracts : Judges code.contracts (first_clause_fault (unit_instrs s method) (unit_shape s method)) (AreContractsOf method (unit_instrs s method))
 
-same_fault : (asm : List ℕ) (method : MethodRow) (is : List Instr) → first_clause_fault is (bare_shape method) ≡ first_clause_fault is (unit_shape asm method)
+same_fault : (s : Scope) (method : MethodRow) (is : List Instr) → first_clause_fault is (bare_shape method) ≡ first_clause_fault is (unit_shape s method)
 unfolding unit_shape
-same_fault asm method is = bare_faults is (bare_shape method) (unit_shape asm method) refl refl
+same_fault s method is = bare_faults is (bare_shape method) (unit_shape s method) refl refl
 
-pub whole_told : (asm : List ℕ) (method : MethodRow) (code : MethodCode) → IsWhole asm method code → IsUnitCode asm method code
-unfolding unit_instrs callee_tokens decoded_instrs code_told
-whole_told asm method code whole =
+pub whole_told : (s : Scope) (method : MethodRow) (code : MethodCode) → IsWhole s method code → IsUnitCode s method code
+unfolding unit_instrs callee_keys decoded_instrs code_told
+whole_told s method code whole =
     let of = whole.code_is in
-    let same : unwrap_or (code_of asm method) [] ≡ of.code = ap (λ (found : Option (List ℕ)). unwrap_or found []) of.own in
-    let instrs : code.instrs ≡ unit_instrs asm method = of.read_of.instrs ∙ ap (λ (c : List ℕ). numbered (meaning_of asm) (instructions_of c)) (sym same) in
+    let same : unwrap_or (code_of s.asm method) [] ≡ of.code = ap (λ (found : Option (List ℕ)). unwrap_or found []) of.own in
+    let instrs : code.instrs ≡ unit_instrs s method = of.read_of.instrs ∙ ap (λ (c : List ℕ). numbered s.meaning (instructions_of c)) (sym same) in
     record {
       instrs = instrs;
-      callees = ap (map as_token) (of.read_of.callees ∙ ap (λ (c : List ℕ). callees_of (meaning_of asm) (instructions_of c)) (sym same));
-      decoded = subst (λ (c : List ℕ). AreDecodedAs c (unit_instrs asm method)) (sym same) (subst (AreDecodedAs of.code) instrs of.read_of.decoded);
+      callees = of.read_of.callees ∙ ap (λ (c : List ℕ). callees_of s.meaning (instructions_of c)) (sym same);
+      decoded = subst (λ (c : List ℕ). AreDecodedAs c (unit_instrs s method)) (sym same) (subst (AreDecodedAs of.code) instrs of.read_of.decoded);
       contracts =
-          subst (λ (fault : Option ClauseFault). Judges code.contracts fault (AreContractsOf method (unit_instrs asm method))) (same_fault asm method (unit_instrs asm method))
+          subst (λ (fault : Option ClauseFault). Judges code.contracts fault (AreContractsOf method (unit_instrs s method))) (same_fault s method (unit_instrs s method))
           (subst (λ (is : List Instr). Judges code.contracts (first_clause_fault is (bare_shape method)) (AreContractsOf method is)) instrs of.read_of.contracts);
     }
 
@@ -61,41 +60,41 @@ pub read_faulty : (first : Option ClauseFault) (read : Result Contracts ClauseFa
 read_faulty first read P fault judged is = ap (option_map Clauses) (rw is at judged)
 
 -- What the code says of itself, as its tests ask for it.
-pub code_judged : (asm : List ℕ) (method : MethodRow) (code : MethodCode) → IsWhole asm method code
-    → Judges code.contracts (first_clause_fault code.instrs (unit_shape asm method)) (AreContractsOf method code.instrs)
-code_judged asm method code whole =
-    let of = whole_told asm method code whole in
-    subst (λ (is : List Instr). Judges code.contracts (first_clause_fault is (unit_shape asm method)) (AreContractsOf method is)) (sym of.instrs) of.contracts
+pub code_judged : (s : Scope) (method : MethodRow) (code : MethodCode) → IsWhole s method code
+    → Judges code.contracts (first_clause_fault code.instrs (unit_shape s method)) (AreContractsOf method code.instrs)
+code_judged s method code whole =
+    let of = whole_told s method code whole in
+    subst (λ (is : List Instr). Judges code.contracts (first_clause_fault is (unit_shape s method)) (AreContractsOf method is)) (sym of.instrs) of.contracts
 
-pub code_lies : (asm : List ℕ) (method : MethodRow) (code : MethodCode) → IsWhole asm method code → AreOfShortCode code.instrs
-code_lies asm method code whole = let of = whole_told asm method code whole in subst AreOfShortCode (sym of.instrs) of.decoded.short
+pub code_lies : (s : Scope) (method : MethodRow) (code : MethodCode) → IsWhole s method code → AreOfShortCode code.instrs
+code_lies s method code whole = let of = whole_told s method code whole in subst AreOfShortCode (sym of.instrs) of.decoded.short
 
 -- The tests of the code are those of the unit.
-pub same_tests : (asm : List ℕ) (method : MethodRow) (code : MethodCode) (tokens : List Token) → IsWhole asm method code → tokens ≡ map as_token code.callees
-    → code_tests asm (unit_shape asm method) tokens code.instrs ≡ code_tests asm (unit_shape asm method) (callee_tokens asm method) (unit_instrs asm method)
-same_tests asm method code tokens whole are = let of = whole_told asm method code whole in ap₂ (code_tests asm (unit_shape asm method)) (are ∙ of.callees) of.instrs
+pub same_tests : (s : Scope) (method : MethodRow) (code : MethodCode) → IsWhole s method code
+    → code_tests s (unit_shape s method) code.callees code.instrs ≡ code_tests s (unit_shape s method) (callee_keys s method) (unit_instrs s method)
+same_tests s method code whole = let of = whole_told s method code whole in ap₂ (code_tests s (unit_shape s method)) of.callees of.instrs
 
 -- What was taken out of code whose tests are passed is the unit's own.
-pub own_is : (asm : List ℕ) (method : MethodRow) (code : MethodCode) (tokens : List Token) (own : OwnCode) → IsWhole asm method code → tokens ≡ map as_token code.callees
-    → first_of (code_tests asm (unit_shape asm method) tokens code.instrs) ≡ None → AreContractsOf method code.instrs own.contracts
-    → own.instrs ≡ code.instrs → own.callees.items ≡ tokens
-    → (first_of (own_tests asm method) ≡ None) × IsOwnCode asm method own
+pub own_is : (s : Scope) (method : MethodRow) (code : MethodCode) (own : OwnCode) → IsWhole s method code
+    → first_of (code_tests s (unit_shape s method) code.callees code.instrs) ≡ None → AreContractsOf method code.instrs own.contracts
+    → own.instrs ≡ code.instrs → own.callees.items ≡ code.callees
+    → (first_of (own_tests s method) ≡ None) × IsOwnCode s method own
 unfolding own_tests
-own_is asm method code tokens own whole are none contracts instrs callees =
-    let of = whole_told asm method code whole in (
-      first_of-none (option_map Code (il_fault asm method)) _ (ap (option_map Code) whole.faultless) ∙ (sym (ap first_of (same_tests asm method code tokens whole are)) ∙ none),
+own_is s method code own whole none contracts instrs callees =
+    let of = whole_told s method code whole in (
+      first_of-none (option_map Code (il_fault s.asm method)) _ (ap (option_map Code) whole.faultless) ∙ (sym (ap first_of (same_tests s method code whole)) ∙ none),
       record {
         instrs = instrs ∙ of.instrs;
-        callees = callees ∙ (are ∙ of.callees);
+        callees = callees ∙ of.callees;
         decoded = of.decoded;
         contracts = subst (λ (is : List Instr). AreContractsOf method is own.contracts) of.instrs contracts;
       },
     )
 
 -- The fault of its tests is the first of the unit's.
-pub own_fault : (asm : List ℕ) (method : MethodRow) (code : MethodCode) (tokens : List Token) (reason : Reason) → IsWhole asm method code → tokens ≡ map as_token code.callees
-    → first_of (code_tests asm (unit_shape asm method) tokens code.instrs) ≡ Some reason
-    → first_of (own_tests asm method) ≡ Some reason
+pub own_fault : (s : Scope) (method : MethodRow) (code : MethodCode) (reason : Reason) → IsWhole s method code
+    → first_of (code_tests s (unit_shape s method) code.callees code.instrs) ≡ Some reason
+    → first_of (own_tests s method) ≡ Some reason
 unfolding own_tests
-own_fault asm method code tokens reason whole are some =
-    first_of-none (option_map Code (il_fault asm method)) _ (ap (option_map Code) whole.faultless) ∙ (sym (ap first_of (same_tests asm method code tokens whole are)) ∙ some)
+own_fault s method code reason whole some =
+    first_of-none (option_map Code (il_fault s.asm method)) _ (ap (option_map Code) whole.faultless) ∙ (sym (ap first_of (same_tests s method code whole)) ∙ some)

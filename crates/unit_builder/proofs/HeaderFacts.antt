@@ -1,13 +1,16 @@
 -- The header of a method's body.
 use Rattle.std.proofs.Common.{◌≡◌, ℕ, ◌+◌, ◌≤◌, Bool, true, false, List, [], length, take, drop, refl, sym, ap, subst, ◌∙◌, arith, length-drop, if◌then◌else◌}
-use Rattle.std.specs.Prelude.{Option, Some, None, option_map, unwrap_or, nat_le}
+use Rattle.std.specs.Prelude.{Option, Some, None, Result, Ok, Err, option_map, unwrap_or, nat_le}
 use Rattle.std.specs.Option.{option_and_then}
 use Rattle.std.proofs.lemmas.List.{length-take}
 use Rattle.std.proofs.lemmas.Option.{none-some, same_Some}
 use Rattle.asm_image.specs.Bodies.{has_il_body}
 use Rattle.asm_image.specs.Tokens.{locals_of}
 use Rattle.asm_image.specs.declared.method_row.MethodRow.{MethodRow}
-use Rattle.cc_base.specs.Tests.{first_of}
+use Rattle.cc_base.specs.Tests.{first_of, Judges}
+use Rattle.unit_builder.specs.Making.{AreVariablesOf}
+use Rattle.unit_builder.specs.declared.header.Variables.{Variables}
+use Rattle.unit_builder.specs.declared.reason.Reason.{Reason}
 use Rattle.il_decoder.specs.Body.{body_code, body_fault, code_at, code_fault, header_at, tiny_header}
 use Rattle.il_decoder.specs.declared.body.Header.{Header}
 use Rattle.pe_reader.specs.Addresses.{bytes_at, first_bytes, rest_at}
@@ -82,3 +85,14 @@ pub without_header : (asm : List ℕ) (method : MethodRow) (locals : List Place)
 unfolding header_tests
 without_header asm method locals none named empty =
     (rw none (first_of-one (name_test method) ∙ named), (empty ∙ sym (no_locals asm method none), sym (no_stack asm method none)))
+
+-- What was read of the variables of a method, of a file that is this one.
+pub variables_told : (asm other : List ℕ) (method : MethodRow) (read : Result Variables Reason) → asm ≡ other
+    → Judges read (first_of (header_tests asm method (header_at asm method.rva)))
+    (λ told. (told.locals ≡ locals_told asm (header_of asm method)) × (told.max_stack ≡ (header_of asm method).max_stack))
+    → Judges read (first_of (header_tests other method (header_at other method.rva))) (AreVariablesOf other method)
+variables_told asm other method (Ok variables) same judged =
+    subst (λ (a : List ℕ). (first_of (header_tests a method (header_at a method.rva)) ≡ None) × AreVariablesOf a method variables) same
+    (judged.0, record { locals = judged.1.0; max_stack = judged.1.1 })
+variables_told asm other method (Err reason) same judged =
+    subst (λ (a : List ℕ). first_of (header_tests a method (header_at a method.rva)) ≡ Some reason) same judged

@@ -3,6 +3,9 @@ pub mod ClauseFacts
 pub mod CodeFacts
 mod Examples
 pub mod HeaderFacts
+pub mod KeyFacts
+pub mod LinkedReach
+pub mod LinkedWorlds
 pub mod Made
 pub mod NameFacts
 pub mod Outcomes
@@ -16,6 +19,7 @@ pub mod TokenTests
 pub mod AgreeLemmas
 pub mod CallFacts
 pub mod MadeLemmas
+pub mod MeaningFacts
 pub mod MetLemmas
 pub mod OrderLemmas
 pub mod ReachLemmas

@@ -15,7 +15,7 @@ use Rattle.cil_model.specs.Limits.{MAX_NAME_BYTES}
 use Rattle.cil_model.specs.WellFormed.{IsUnitName}
 use Rattle.pe_reader.specs.Addresses.{metadata}
 use Rattle.signature_blobs.specs.declared.method.SigTypes.{SigTypes}
-use Rattle.unit_builder.specs.Bodies.{unit_name}
+use Rattle.unit_builder.specs.Callees.{unit_name}
 use Rattle.unit_builder.specs.Rows.{IsRowOf}
 
 -- ---- where the types begin

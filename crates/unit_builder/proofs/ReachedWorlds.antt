@@ -193,9 +193,9 @@ goes_far asm from (suc left) tokens n way table enough =
       | inr all ↦ reach asm from tokens n way (omega (arith, all)) few
     ]
 
-alone : (P : ℕ → ℕ → Type 0) (from : ℕ) → P 0 from → (place : ℕ) → place < length (from ∷ []) → P place (get_or (from ∷ []) place 0)
-alone P from first zero lt = first
-alone P from first (suc place) lt = absurd (omega (arith, lt))
+pub first_alone : (P : ℕ → ℕ → Type 0) (from : ℕ) → P 0 from → (place : ℕ) → place < length (from ∷ []) → P place (get_or (from ∷ []) place 0)
+first_alone P from first zero lt = first
+first_alone P from first (suc place) lt = absurd (omega (arith, lt))
 
 reach_of : (asm : List ℕ) (from : ℕ) → first_method + length (methods_of asm) ≤ 2 ^ 32 → IsSome (method_of asm (as_token from)) → IsReach asm from
 reach_of asm from small there =
@@ -204,8 +204,8 @@ reach_of asm from small there =
     goes_far asm from count (from ∷ []) 0
     (record {
       start = same;
-      there = alone (λ n token. IsSome (method_of asm (as_token token))) from there;
-      near = alone (λ n token. reaches_in nat_eq (calls_of asm) n from token ≡ true) from (eq-eqb from from refl);
+      there = first_alone (λ n token. IsSome (method_of asm (as_token token))) from there;
+      near = first_alone (λ n token. reaches_in nat_eq (calls_of asm) n from token ≡ true) from (eq-eqb from from refl);
       within = omega arith;
       closed = λ place token lt called. absurd (omega (arith, lt));
     })
@@ -219,7 +219,7 @@ put_unit : (P : MethodUnit → Type 0) (found : Option MethodUnit) (units : List
 put_unit P None units holds rest = rest
 put_unit P (Some unit) units holds rest = (holds unit refl, rest)
 
-each_found : (P : MethodUnit → Type 0) (find : ℕ → Option MethodUnit) (Q : ℕ → Type 0) (ns : List ℕ)
+pub each_found : (P : MethodUnit → Type 0) (find : ℕ → Option MethodUnit) (Q : ℕ → Type 0) (ns : List ℕ)
     → ((n : ℕ) (unit : MethodUnit) → Q n → find n ≡ Some unit → P unit) → AllByRecursion Q ns → AllByRecursion P (filter_map find ns)
 each_found P find Q [] holds all = tt
 each_found P find Q (n ∷ ns) holds all =

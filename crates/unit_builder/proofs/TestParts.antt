@@ -7,10 +7,11 @@ use Rattle.asm_image.specs.declared.method_row.MethodRow.{MethodRow}
 use Rattle.cc_base.specs.Tests.{first_of, must}
 use Rattle.cc_base.proofs.TestLemmas.{first_of-append_none, first_of-append_some, must_hold, none_behind, none_here}
 use Rattle.il_decoder.specs.Body.{header_at}
+use Rattle.unit_builder.specs.Scopes.{Scope}
 use Rattle.unit_builder.specs.declared.reason.Reason.{Reason}
 use Rattle.cil_model.specs.Limits.{MAX_INSTRUCTIONS}
 use Rattle.unit_builder.specs.Callable.{are_known, is_static}
-use Rattle.unit_builder.specs.Bodies.{callee_tokens, il_fault, unit_instrs}
+use Rattle.unit_builder.specs.Bodies.{callee_keys, il_fault, unit_instrs}
 use Rattle.unit_builder.specs.Reasons.{code_tests, has_short_name, header_tests, kind_tests, own_tests, reason_tests, row_tests}
 use Rattle.unit_builder.specs.declared.reason.Reason.TheVariants.{Instance, Generic, NoBody, SignatureType, TooLarge, Code}
 
@@ -23,18 +24,18 @@ row_body method none =
     (must_hold (has_il_body method) NoBody).0 (none_here body (must (are_known method.sig.types) SignatureType ∷ []) (none_behind front (body ∷ must (are_known method.sig.types) SignatureType ∷ []) none))
 
 -- The callees of code that passes its tests have names that fit.
-pub own_short : (asm : List ℕ) (method : MethodRow) → first_of (own_tests asm method) ≡ None → list_all (has_short_name asm) (callee_tokens asm method) ≡ true
+pub own_short : (s : Scope) (method : MethodRow) → first_of (own_tests s method) ≡ None → list_all (has_short_name s.info) (callee_keys s method) ≡ true
 unfolding own_tests code_tests
-own_short asm method none =
-    let il = option_map Code (il_fault asm method) in
-    let count = must (nat_le (length (unit_instrs asm method)) MAX_INSTRUCTIONS) TooLarge in
-    let names = must (list_all (has_short_name asm) (callee_tokens asm method)) TooLarge in
-    (must_hold (list_all (has_short_name asm) (callee_tokens asm method)) TooLarge).0 (none_here names _ (none_behind (il ∷ count ∷ []) (names ∷ _) none))
+own_short s method none =
+    let il = option_map Code (il_fault s.asm method) in
+    let count = must (nat_le (length (unit_instrs s method)) MAX_INSTRUCTIONS) TooLarge in
+    let names = must (list_all (has_short_name s.info) (callee_keys s method)) TooLarge in
+    (must_hold (list_all (has_short_name s.info) (callee_keys s method)) TooLarge).0 (none_here names _ (none_behind (il ∷ count ∷ []) (names ∷ _) none))
 
 -- The fault of the method's own code is the first, where the row and the header have none.
-pub own_first : (asm : List ℕ) (method : MethodRow) (reason : Reason) → first_of (row_tests method) ≡ None → first_of (header_tests asm method (header_at asm method.rva)) ≡ None
-    → first_of (own_tests asm method) ≡ Some reason → first_of (reason_tests asm method) ≡ Some reason
+pub own_first : (s : Scope) (method : MethodRow) (reason : Reason) → first_of (row_tests method) ≡ None → first_of (header_tests s.asm method (header_at s.asm method.rva)) ≡ None
+    → first_of (own_tests s method) ≡ Some reason → first_of (reason_tests s method) ≡ Some reason
 unfolding reason_tests
-own_first asm method reason row header some =
+own_first s method reason row header some =
     first_of-append_none (row_tests method) _ row
-    ∙ (first_of-append_none (header_tests asm method (header_at asm method.rva)) _ header ∙ first_of-append_some (own_tests asm method) (kind_tests asm method) reason some)
+    ∙ (first_of-append_none (header_tests s.asm method (header_at s.asm method.rva)) _ header ∙ first_of-append_some (own_tests s method) (kind_tests s method) reason some)

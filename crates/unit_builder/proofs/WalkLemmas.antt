@@ -7,12 +7,12 @@ use Rattle.std.specs.Option.{option_and_then, option_map_or}
 use Rattle.asm_image.specs.Bodies.{method_of}
 use Rattle.asm_image.specs.Rows.{methods_of}
 use Rattle.asm_image.specs.declared.method_row.MethodRow.{MethodRow}
-use Rattle.cc_base.specs.declared.token.Token.{Token}
 use Rattle.unit_builder.specs.Met.{all_met, met, met_by, place_in}
 use Rattle.unit_builder.specs.Meanings.{as_token}
-use Rattle.unit_builder.specs.Bodies.{callee_tokens}
+use Rattle.unit_builder.specs.Bodies.{callee_keys}
 use Rattle.unit_builder.specs.Outcomes.{outcome_of}
 use Rattle.unit_builder.specs.Reach.{Reaches, reaches_in}
+use Rattle.unit_builder.specs.Scopes.{scope_of}
 use Rattle.unit_builder.specs.Walks.{IsWalk, IsWhole, Tells, calls_by, calls_in, calls_of, is_reached, numbers, unit_at, unit_by}
 use Rattle.unit_builder.specs.declared.entry.Outcome.{Outcome}
 use Rattle.unit_builder.specs.declared.entry.Outcome.TheVariants.{Analysed, Skipped}
@@ -87,7 +87,7 @@ all-each P (first ∷ calls) tokens old new =
 -- ---- one step
 
 -- The calls of a method that was visited.
-no-calls : (callees : List Token) (outcome : Outcome) → unit_by outcome ≡ None → [] ≡ calls_by callees outcome
+no-calls : (callees : List ℕ) (outcome : Outcome) → unit_by outcome ≡ None → [] ≡ calls_by callees outcome
 no-calls callees (Analysed unit) none = absurd cc
 no-calls callees (Skipped reason) none = refl
 
@@ -95,20 +95,20 @@ pub told-calls : (asm : List ℕ) (token : ℕ) (visited : Option Visited) → T
 unfolding unit_at calls_of
 told-calls asm token None none = of_method (method_of asm (as_token token)) none where
   of_method : (method : Option MethodRow) → option_and_then (λ m. unit_by (outcome_of asm m)) method ≡ None
-      → [] ≡ option_map_or (λ m. calls_by (callee_tokens asm m) (outcome_of asm m)) method []
+      → [] ≡ option_map_or (λ m. calls_by (callee_keys (scope_of asm) m) (outcome_of asm m)) method []
   of_method None none = refl
-  of_method (Some method) none = no-calls (callee_tokens asm method) (outcome_of asm method) none
+  of_method (Some method) none = no-calls (callee_keys (scope_of asm) method) (outcome_of asm method) none
 told-calls asm token (Some visited) told = told.callees
 
 -- What is called is a method of the assembly.
 pub calls-there : (asm : List ℕ) (token called : ℕ) → Contains (calls_of asm token) called → IsSome (method_of asm (as_token called))
 unfolding calls_of
 calls-there asm token called there = of_method (method_of asm (as_token token)) there where
-  by_outcome : (method : MethodRow) (outcome : Outcome) → Contains (calls_by (callee_tokens asm method) outcome) called → IsSome (method_of asm (as_token called))
+  by_outcome : (method : MethodRow) (outcome : Outcome) → Contains (calls_by (callee_keys (scope_of asm) method) outcome) called → IsSome (method_of asm (as_token called))
   by_outcome method (Analysed unit) there = callees-there asm method called there
   by_outcome method (Skipped reason) there = absurd (omega (arith, there.1))
 
-  of_method : (method : Option MethodRow) → Contains (option_map_or (λ m. calls_by (callee_tokens asm m) (outcome_of asm m)) method []) called → IsSome (method_of asm (as_token called))
+  of_method : (method : Option MethodRow) → Contains (option_map_or (λ m. calls_by (callee_keys (scope_of asm) m) (outcome_of asm m)) method []) called → IsSome (method_of asm (as_token called))
   of_method None there = absurd (omega (arith, there.1))
   of_method (Some method) there = by_outcome method (outcome_of asm method) there
 

@@ -13,7 +13,7 @@ use Rattle.cil_model.specs.declared.unit.Unit.{Unit as MethodUnit}
 use Rattle.unit_builder.specs.Met.{first_method, place_in}
 use Rattle.unit_builder.specs.Meanings.{as_token}
 use Rattle.method_unit.specs.Units.{IsUnit}
-use Rattle.unit_builder.specs.Reasons.{callee_info}
+use Rattle.unit_builder.specs.Scopes.{alone, info_in}
 use Rattle.unit_builder.specs.Reach.{Reaches, itself, onward}
 use Rattle.unit_builder.specs.Walks.{IsWhole, Tells, calls_of, is_reached, numbers, tokens_in, unit_at}
 use Rattle.unit_builder.specs.WorldOf.{IfNotAnalysed, IsLeastSkipped, JudgesWorld, is_missing, least_skipped, made, places_in, places_made, unit_made, world_of, world_tokens}
@@ -29,12 +29,12 @@ use Rattle.unit_builder.proofs.VisitLemmas.{some_is}
 
 -- ---- lists
 
-placed_behind : (b : Bool) (place : Option ℕ) → IsSome place → IsSome (cond b (Some 0) (option_map suc place))
+pub placed_behind : (b : Bool) (place : Option ℕ) → IsSome place → IsSome (cond b (Some 0) (option_map suc place))
 placed_behind true place there = refl
 placed_behind false None there = absurd cc
 placed_behind false (Some place) there = refl
 
-placed : (ns : List ℕ) (n place : ℕ) → place < length ns → get_or ns place 0 ≡ n → IsSome (place_in ns n)
+pub placed : (ns : List ℕ) (n place : ℕ) → place < length ns → get_or ns place 0 ≡ n → IsSome (place_in ns n)
 placed [] n place lt is = absurd (omega arith)
 placed (first ∷ ns) n zero lt is = rw (eq-eqb first n is) refl
 placed (first ∷ ns) n (suc place) lt is = placed_behind (first == n) (place_in ns n) (placed ns n place (omega arith) is)
@@ -58,7 +58,7 @@ placed_kept true first n ns kept passes rest there = kept_behind (first == n) (p
 placed_kept false first n ns kept passes rest there =
     rest (left_out (first == n) (place_in ns n) (λ same. true≢false (sym (passes (eqb-true first n same)))) there)
 
-placed_filter : (test : ℕ → Bool) (ns : List ℕ) (n : ℕ) → test n ≡ true → IsSome (place_in ns n) → IsSome (place_in (filter test ns) n)
+pub placed_filter : (test : ℕ → Bool) (ns : List ℕ) (n : ℕ) → test n ≡ true → IsSome (place_in ns n) → IsSome (place_in (filter test ns) n)
 placed_filter test [] n passes there = there
 placed_filter test (first ∷ ns) n passes there =
     placed_kept (test first) first n ns (filter test ns) (λ same. ap test same ∙ passes) (placed_filter test ns n passes) there
@@ -67,15 +67,15 @@ passes_kept : (P : ℕ → Type 0) (keep : Bool) (n : ℕ) (ns : List ℕ) → (
 passes_kept P true n ns holds all = (holds refl, all)
 passes_kept P false n ns holds all = all
 
-each_passes : (P : ℕ → Type 0) (test : ℕ → Bool) (ns : List ℕ) → ((n : ℕ) → test n ≡ true → P n) → AllByRecursion P (filter test ns)
+pub each_passes : (P : ℕ → Type 0) (test : ℕ → Bool) (ns : List ℕ) → ((n : ℕ) → test n ≡ true → P n) → AllByRecursion P (filter test ns)
 each_passes P test [] holds = tt
 each_passes P test (n ∷ ns) holds = passes_kept P (test n) n (filter test ns) (holds n) (each_passes P test ns holds)
 
-each_weaker : (P Q : ℕ → Type 0) → ((n : ℕ) → P n → Q n) → (ns : List ℕ) → AllByRecursion P ns → AllByRecursion Q ns
+pub each_weaker : (P Q : ℕ → Type 0) → ((n : ℕ) → P n → Q n) → (ns : List ℕ) → AllByRecursion P ns → AllByRecursion Q ns
 each_weaker P Q so [] all = tt
 each_weaker P Q so (n ∷ ns) all = (so n all.0, each_weaker P Q so ns all.1)
 
-each_contained : (P : ℕ → Type 0) (ns : List ℕ) → ((n : ℕ) → Contains ns n → P n) → AllByRecursion P ns
+pub each_contained : (P : ℕ → Type 0) (ns : List ℕ) → ((n : ℕ) → Contains ns n → P n) → AllByRecursion P ns
 each_contained P [] holds = tt
 each_contained P (n ∷ ns) holds = (holds n (0, omega arith, refl), each_contained P ns (λ m there. holds m (Contains-behind n ns m there)))
 
@@ -193,7 +193,7 @@ module _ (asm : List ℕ) (from : ℕ) (reached_is : (token : ℕ) → (is_reach
       → ((token : ℕ) (unit : MethodUnit) → is_reached asm from token ≡ true → unit_at asm token ≡ Some unit → IsUnit unit) → Agree (world_of asm from)
   unfolding world_of
   reached_agree analysed runs =
-      agree (unit_at asm) (calls_of asm) (λ n. callee_info asm (as_token n)) (world_tokens asm from)
+      agree (unit_at asm) (calls_of asm) (info_in (alone asm)) (world_tokens asm from)
       (each_weaker (λ token. is_reached asm from token ≡ true) (λ token. IsSome (unit_at asm token)) analysed (world_tokens asm from) each_reached)
       (each_weaker (λ token. is_reached asm from token ≡ true) (λ token. AllByRecursion (λ called. IsSome (place_in (world_tokens asm from) called)) (calls_of asm token))
       (λ token reached. each_contained (λ called. IsSome (place_in (world_tokens asm from) called)) (calls_of asm token)

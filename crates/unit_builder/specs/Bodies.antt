@@ -1,6 +1,5 @@
 -- What the row of a method and its body tell of its unit.
-use Rattle.std.specs.Prelude.{ℕ, ◌-◌, List, [], ◌∷◌, length, map, take, Option, Some, None, unwrap_or}
-use Rattle.asm_image.specs.Names.{types_text}
+use Rattle.std.specs.Prelude.{ℕ, List, [], ◌∷◌, map, Option, Some, None, unwrap_or}
 use Rattle.asm_image.specs.Tokens.{locals_of}
 use Rattle.asm_image.specs.declared.method_row.MethodRow.{MethodRow}
 use Rattle.cc_base.specs.Tests.{first_of}
@@ -18,11 +17,8 @@ use Rattle.method_code.specs.OfMethods.{clauses_of as clauses_with, code_of}
 use Rattle.pe_reader.specs.Addresses.{metadata}
 use Rattle.signature_blobs.specs.declared.local.LocalSig.{LocalSig}
 use Rattle.signature_blobs.specs.declared.local.LocalSig.TheVariants as locals
-use Rattle.unit_builder.specs.Meanings.{as_token, meaning_of}
-
--- The printed name without the types of the parameters, which it ends with.
-unfoldable pub unit_name : MethodRow → List ℕ
-unit_name method = take (length method.name - length (types_text method.sig.types)) method.name
+use Rattle.unit_builder.specs.Meanings.{as_token}
+use Rattle.unit_builder.specs.Scopes.{Scope, scope_of}
 
 -- ---- the header
 
@@ -57,13 +53,17 @@ unfoldable pub decoded_instrs : List ℕ → MethodRow → List Instr
 decoded_instrs asm method = instructions_of (code_told asm method)
 
 -- The instructions with the numbers of the unit.
-unfoldable pub unit_instrs : List ℕ → MethodRow → List Instr
-unit_instrs asm method = numbered (meaning_of asm) (decoded_instrs asm method)
+unfoldable pub unit_instrs : Scope → MethodRow → List Instr
+unit_instrs scope method = numbered scope.meaning (decoded_instrs scope.asm method)
 
--- The tokens of the methods that the code calls, in order of first use.
+-- The keys of the methods that the code calls, in order of first use.
+unfoldable pub callee_keys : Scope → MethodRow → List ℕ
+callee_keys scope method = callees_of scope.meaning (decoded_instrs scope.asm method)
+
+-- The same as tokens, of a file alone.
 unfoldable pub callee_tokens : List ℕ → MethodRow → List Token
-callee_tokens asm method = map as_token (callees_of (meaning_of asm) (decoded_instrs asm method))
+callee_tokens asm method = map as_token (callee_keys (scope_of asm) method)
 
 -- What callers know of a method: its clauses.
-abbrev pub clauses_of : List ℕ → MethodRow → List Clause
-clauses_of asm method = clauses_with (meaning_of asm) asm method
+abbrev pub clauses_of : Scope → MethodRow → List Clause
+clauses_of scope method = clauses_with scope.meaning scope.asm method

@@ -1,6 +1,9 @@
 pub mod Bodies
 pub mod Callable
+pub mod Callees
+pub mod Graphs
 pub mod Laws
+pub mod Linked
 pub mod Making
 pub mod Meanings
 pub mod Met
@@ -8,6 +11,8 @@ pub mod Outcomes
 pub mod Reach
 pub mod Reasons
 pub mod Rows
+pub mod Scopes
 pub mod Slots
+pub mod Sources
 pub mod Walks
 pub mod WorldOf

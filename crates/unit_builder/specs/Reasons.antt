@@ -1,16 +1,12 @@
 -- Why a method of an assembly is not analysed: the tests of its row, of its header and of its code, in order.
 use Rattle.std.specs.Prelude.{ℕ, ◌+◌, nat_le, Bool, true, false, not, ◌||◌, List, [], ◌∷◌, ◌++◌, length, map, is_some, Option, Some, None, option_map}
 use Rattle.std.specs.List.{list_all}
-use Rattle.std.specs.Option.{option_map_or}
-use Rattle.asm_image.specs.Bodies.{has_il_body, method_of}
+use Rattle.asm_image.specs.Bodies.{has_il_body}
 use Rattle.asm_image.specs.declared.method_row.MethodRow.{MethodRow}
 use Rattle.cc_base.specs.Tests.{must}
-use Rattle.cc_base.specs.declared.token.Token.{Token as MethodToken}
 use Rattle.cil_model.specs.Blocks.{start_of_body}
 use Rattle.cil_model.specs.Limits.{MAX_BLOCKS, MAX_CODE_BYTES, MAX_INSTRUCTIONS, MAX_NAME_BYTES, MAX_VARIABLES}
-use Rattle.cil_model.specs.declared.clause.Clause.{Clause}
 use Rattle.cil_model.specs.declared.instruction.Instr.{Instr}
-use Rattle.cil_model.specs.declared.place.Place.TheVariants as places
 use Rattle.cil_model.specs.declared.shape.Shape.{Shape}
 use Rattle.cil_model.specs.declared.unit.CalleeInfo.{CalleeInfo}
 use Rattle.clause_faults.specs.Faults.{first_clause_fault}
@@ -20,8 +16,10 @@ use Rattle.il_decoder.specs.declared.body.Header.{Header}
 use Rattle.method_code.specs.OfMethods.{args_of, result_of}
 use Rattle.method_unit.specs.UnitFile.{names_something}
 use Rattle.stack_typer.specs.FirstTypeFault.{first_type_fault}
-use Rattle.unit_builder.specs.Bodies.{callee_tokens, clauses_of, header_of, il_fault, locals_named, locals_told, unit_instrs, unit_name}
+use Rattle.unit_builder.specs.Bodies.{callee_keys, header_of, il_fault, locals_named, locals_told, unit_instrs}
+use Rattle.unit_builder.specs.Callees.{unit_name}
 use Rattle.unit_builder.specs.Callable.{are_known, is_static}
+use Rattle.unit_builder.specs.Scopes.{Scope}
 use Rattle.unit_builder.specs.declared.reason.Reason.{Reason}
 use Rattle.unit_builder.specs.declared.reason.Reason.TheVariants.{Instance, Generic, NoBody, SignatureType, LocalType, LocalsNotZero, Section, TooLarge, Code, Clauses, Token, Kinds}
 
@@ -64,42 +62,20 @@ header_tests asm method (Some header) =
     ∷ name_test method
     ∷ []
 
--- ---- callees
-
--- What callers know of a method with these clauses.
-abbrev pub info_with : MethodRow → List Clause → CalleeInfo
-info_with method clauses = record {
-  name = unit_name method;
-  result = result_of method.sig.types;
-  args = args_of method.sig.types;
-  clauses = clauses;
-}
-
-abbrev pub info_of : List ℕ → MethodRow → CalleeInfo
-info_of asm method = info_with method (clauses_of asm method)
-
--- What is known where there is no such method.
-abbrev pub no_info : CalleeInfo
-no_info = record { name = []; result = places.Void; args = []; clauses = [] }
-
--- What callers know of the method that a token names.
-unfoldable pub callee_info : List ℕ → MethodToken → CalleeInfo
-callee_info asm token = option_map_or (info_of asm) (method_of asm token) no_info
-
--- The name of the method that a token names fits a unit.
-abbrev pub has_short_name : List ℕ → MethodToken → Bool
-has_short_name asm token = is_short_name (option_map_or unit_name (method_of asm token) [])
+-- The name of the method of a key fits a unit.
+abbrev pub has_short_name : (ℕ → CalleeInfo) → ℕ → Bool
+has_short_name info key = is_short_name (info key).name
 
 -- ---- the instructions
 
 -- What the typing of a method depends on, besides its code.
-unfoldable pub unit_shape : List ℕ → MethodRow → Shape
-unit_shape asm method = record {
+unfoldable pub unit_shape : Scope → MethodRow → Shape
+unit_shape scope method = record {
   result = result_of method.sig.types;
   args = args_of method.sig.types;
-  locals = locals_told asm (header_of asm method);
-  max_stack = (header_of asm method).max_stack;
-  callees = map (callee_info asm) (callee_tokens asm method);
+  locals = locals_told scope.asm (header_of scope.asm method);
+  max_stack = (header_of scope.asm method).max_stack;
+  callees = map scope.info (callee_keys scope method);
 }
 
 -- The number of an instruction names something, in a unit with so many callees.
@@ -114,23 +90,27 @@ abbrev pub blocks_in : List Instr → ℕ
 blocks_in is = length (block_starts is (start_of_body is))
 
 -- What is tested of instructions with these callees, before what is known of the callees is asked.
-unfoldable pub code_tests : List ℕ → Shape → List MethodToken → List Instr → List (Option Reason)
-code_tests asm shape callees is =
+unfoldable pub code_tests : Scope → Shape → List ℕ → List Instr → List (Option Reason)
+code_tests scope shape callees is =
     must (nat_le (length is) MAX_INSTRUCTIONS) TooLarge
-    ∷ must (list_all (has_short_name asm) callees) TooLarge
+    ∷ must (list_all (has_short_name scope.info) callees) TooLarge
     ∷ option_map Clauses (first_clause_fault is shape)
     ∷ must (nat_le (blocks_in is) MAX_BLOCKS) TooLarge
     ∷ token_tests (length callees) is
 
 -- What is tested of the method's own code.
-unfoldable pub own_tests : List ℕ → MethodRow → List (Option Reason)
-own_tests asm method = option_map Code (il_fault asm method) ∷ code_tests asm (unit_shape asm method) (callee_tokens asm method) (unit_instrs asm method)
+unfoldable pub own_tests : Scope → MethodRow → List (Option Reason)
+own_tests scope method =
+    option_map Code (il_fault scope.asm method)
+    ∷ code_tests scope (unit_shape scope method) (callee_keys scope method) (unit_instrs scope method)
 
 -- What is tested last: the code has kinds.
-unfoldable pub kind_tests : List ℕ → MethodRow → List (Option Reason)
-kind_tests asm method = option_map Kinds (first_type_fault (unit_instrs asm method) (unit_shape asm method)) ∷ []
+unfoldable pub kind_tests : Scope → MethodRow → List (Option Reason)
+kind_tests scope method = option_map Kinds (first_type_fault (unit_instrs scope method) (unit_shape scope method)) ∷ []
 
 -- ---- all tests
 
-unfoldable pub reason_tests : List ℕ → MethodRow → List (Option Reason)
-reason_tests asm method = row_tests method ++ (header_tests asm method (header_at asm method.rva) ++ (own_tests asm method ++ kind_tests asm method))
+unfoldable pub reason_tests : Scope → MethodRow → List (Option Reason)
+reason_tests scope method =
+    row_tests method
+    ++ (header_tests scope.asm method (header_at scope.asm method.rva) ++ (own_tests scope method ++ kind_tests scope method))

@@ -7,11 +7,12 @@ use Rattle.asm_image.specs.declared.method_row.MethodRow.{MethodRow}
 use Rattle.cc_base.specs.declared.token.Token.{Token}
 use Rattle.cil_model.specs.declared.unit.Unit.{Unit as MethodUnit}
 use Rattle.unit_builder.specs.Met.{place_in}
-use Rattle.unit_builder.specs.Bodies.{callee_tokens}
+use Rattle.unit_builder.specs.Bodies.{callee_keys}
 use Rattle.unit_builder.specs.Meanings.{as_token}
 use Rattle.method_unit.specs.Units.{IsUnit}
 use Rattle.unit_builder.specs.Outcomes.{outcome_of}
 use Rattle.unit_builder.specs.Reach.{Reaches, reaches_in}
+use Rattle.unit_builder.specs.Scopes.{scope_of}
 use Rattle.unit_builder.specs.declared.entry.Outcome.{Outcome}
 use Rattle.unit_builder.specs.declared.entry.Outcome.TheVariants.{Analysed, Skipped}
 use Rattle.unit_builder.specs.declared.reach.Visited.{Visited}
@@ -25,14 +26,14 @@ abbrev pub unit_by : Outcome → Option MethodUnit
 unit_by (Analysed unit) = Some unit
 unit_by (Skipped reason) = None
 
-abbrev pub calls_by : List Token → Outcome → List ℕ
-calls_by callees (Analysed unit) = numbers callees
+abbrev pub calls_by : List ℕ → Outcome → List ℕ
+calls_by callees (Analysed unit) = callees
 calls_by callees (Skipped reason) = []
 
 -- The tokens of the methods that are called in the body of a method, in order of first use; none where it is not
 -- analysed.
 abbrev pub body_calls : List ℕ → MethodRow → List ℕ
-body_calls asm method = calls_by (callee_tokens asm method) (outcome_of asm method)
+body_calls asm method = calls_by (callee_keys (scope_of asm) method) (outcome_of asm method)
 
 -- The same of the method that a token names.
 unfoldable pub calls_of : List ℕ → ℕ → List ℕ

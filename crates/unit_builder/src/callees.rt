@@ -1,19 +1,23 @@
 //! What a unit knows of the methods that it calls.
 
-ghost use Rattle.std.specs.Prelude.{◌≡◌, ◌≤◌, ℕ, List, true, map, length, slice_get, Some, IfOk};
-ghost use Rattle.std.specs.List.{AllByRecursion, list_all};
+ghost use Rattle.std.specs.Prelude.{◌≡◌, ◌<◌, ℕ, List, true, slice_get, Some, IfOk};
+ghost use Rattle.std.specs.List.{list_all};
 ghost use Rattle.asm_image.specs.Rows.{methods_of};
 ghost use Rattle.cil_model.specs.WellFormed.{IsCallee};
-ghost use Rattle.unit_builder.specs.Bodies.{clauses_of, unit_name};
+ghost use Rattle.unit_builder.specs.Bodies.{clauses_of};
+ghost use Rattle.unit_builder.specs.Callees.{info_with, no_info};
 ghost use Rattle.unit_builder.specs.Making.{AreCallees, AreKnownOf};
-ghost use Rattle.unit_builder.specs.Reasons.{callee_info, has_short_name, info_with, no_info};
+ghost use Rattle.unit_builder.specs.Reasons.{has_short_name};
 ghost use Rattle.unit_builder.specs.Rows.{IsRowOf};
-ghost use Rattle.unit_builder.specs.Slots.{AreSlots, IsSlotOf};
+ghost use Rattle.unit_builder.specs.Scopes.{info_in};
+ghost use Rattle.unit_builder.specs.Slots.{AreAllSlots, AreSlots, IsSlotOf};
+ghost use Rattle.unit_builder.specs.Sources.{files_of, scope_at};
 
 use crate::names::unit_name;
 use crate::slots::Slot;
-use asm_image::{Assembly, MethodRow};
-use cc_base::{NoMemory, Token};
+use crate::sources::{Sources, file_of, token_in};
+use asm_image::MethodRow;
+use cc_base::NoMemory;
 use cil_model::{CalleeInfo, Clause, List, Place, copy_clauses};
 use signature_blobs::SigTypes;
 use std::alloc::Global;
@@ -22,38 +26,69 @@ use std::alloc::Global;
 #[tactic(auto, using(crate::proofs::ClauseFacts::known_of, crate::proofs::ClauseFacts::none_known, crate::proofs::SlotFacts::bodiless_clauses))]
 fn clauses_known(
     alloc: Global,
-    assembly: &Assembly<'_>,
+    sources: &Sources<'_>,
+    file: u32,
     method: &MethodRow,
     slot: &mut Slot,
 ) -> Result<Vec<Clause>, NoMemory>
-    requires slot { IsSlotOf assembly.now method.now slot.old }
-    ensures slot { IsSlotOf assembly.now method.now slot.new }
-    ensures value { IfOk result (λ clauses. clauses.items ≡ clauses_of assembly.now method.now) }
+    requires file { file < (files_of sources.now).count }
+    requires slot { IsSlotOf (scope_at sources.now file) method.now slot.old }
+    ensures slot { IsSlotOf (scope_at sources.now file) method.now slot.new }
+    ensures value { IfOk result (λ clauses. clauses.items ≡ clauses_of (scope_at sources.now file) method.now) }
     ensures known { IfOk result (λ clauses. AreKnownOf method.now clauses.items) }
 {
     if !method.has_il_body() {
         return Ok(Vec::new(alloc));
     }
-    slot.read(alloc, assembly, method)?;
+    slot.read(alloc, sources, file, method)?;
     copy_clauses(alloc, slot.clauses())
 }
 
-/// The same of the method of an index.
+/// The same of the method of an index, by the slots of its file.
 #[tactic(auto, using(crate::proofs::SlotLists::slot_set, crate::proofs::SlotLists::slot_there, crate::proofs::SlotLists::slot_within))]
 fn clauses_at(
     alloc: Global,
-    assembly: &Assembly<'_>,
+    sources: &Sources<'_>,
+    file: u32,
     method: &MethodRow,
     slots: &mut [Slot],
     index: usize,
 ) -> Result<Vec<Clause>, NoMemory>
-    requires slots { AreSlots assembly.now slots.old }
-    requires there { slice_get (methods_of assembly.now) index ≡ Some method.now }
-    ensures slots { AreSlots assembly.now slots.new }
-    ensures value { IfOk result (λ clauses. clauses.items ≡ clauses_of assembly.now method.now) }
+    requires file { file < (files_of sources.now).count }
+    requires slots { AreSlots (scope_at sources.now file) slots.old }
+    requires there { slice_get (methods_of (scope_at sources.now file).asm) index ≡ Some method.now }
+    ensures slots { AreSlots (scope_at sources.now file) slots.new }
+    ensures value { IfOk result (λ clauses. clauses.items ≡ clauses_of (scope_at sources.now file) method.now) }
     ensures known { IfOk result (λ clauses. AreKnownOf method.now clauses.items) }
 {
-    clauses_known(alloc, assembly, method, &mut slots[index])
+    clauses_known(alloc, sources, file, method, &mut slots[index])
+}
+
+/// The same by the slots of all files.
+#[tactic(auto, using(crate::proofs::SlotLists::file_set, crate::proofs::SlotLists::file_there, crate::proofs::SlotLists::file_within))]
+fn clauses_in(
+    alloc: Global,
+    sources: &Sources<'_>,
+    file: u32,
+    method: &MethodRow,
+    slots: &mut [Vec<Slot>],
+    index: usize,
+) -> Result<Vec<Clause>, NoMemory>
+    requires file { file < (files_of sources.now).count }
+    requires slots { AreAllSlots (files_of sources.now) slots.old }
+    requires there { slice_get (methods_of (scope_at sources.now file).asm) index ≡ Some method.now }
+    ensures slots { AreAllSlots (files_of sources.now) slots.new }
+    ensures value { IfOk result (λ clauses. clauses.items ≡ clauses_of (scope_at sources.now file) method.now) }
+    ensures known { IfOk result (λ clauses. AreKnownOf method.now clauses.items) }
+{
+    clauses_at(
+        alloc,
+        sources,
+        file,
+        method,
+        &mut slots[file as usize],
+        index,
+    )
 }
 
 /// Returns what callers know of a method with these clauses.
@@ -89,44 +124,44 @@ fn no_info(alloc: Global) -> CalleeInfo
     }
 }
 
-/// Returns what callers know of the method that a token names.
-#[tactic(auto, using(crate::proofs::RowFacts::token_there, crate::proofs::RowFacts::token_some, crate::proofs::CalleeFacts::no_callee, crate::proofs::CalleeFacts::no_callee_fits, crate::proofs::CalleeFacts::callee_told, crate::proofs::CalleeFacts::callee_fits))]
+/// Returns what callers know of the method of a key.
+#[tactic(auto, using(crate::proofs::KeyFacts::key_there, crate::proofs::KeyFacts::key_some, crate::proofs::KeyFacts::file_there, crate::proofs::KeyFacts::key_row, crate::proofs::CalleeFacts::no_callee, crate::proofs::CalleeFacts::no_callee_fits, crate::proofs::CalleeFacts::callee_told, crate::proofs::CalleeFacts::callee_fits))]
 fn callee_info(
     alloc: Global,
-    assembly: &Assembly<'_>,
-    slots: &mut [Slot],
-    token: Token,
+    sources: &Sources<'_>,
+    slots: &mut [Vec<Slot>],
+    key: u64,
 ) -> Result<CalleeInfo, NoMemory>
-    requires slots { AreSlots assembly.now slots.old }
-    ensures slots { AreSlots assembly.now slots.new }
-    ensures value { IfOk result (λ info. info ≡ callee_info assembly.now token) }
-    ensures callee { IfOk result (λ info. has_short_name assembly.now token ≡ true → IsCallee info) }
+    requires slots { AreAllSlots (files_of sources.now) slots.old }
+    ensures slots { AreAllSlots (files_of sources.now) slots.new }
+    ensures value { IfOk result (λ info. info ≡ info_in (files_of sources.now) key) }
+    ensures callee { IfOk result (λ info. has_short_name (info_in (files_of sources.now)) key ≡ true → IsCallee info) }
 {
-    let Some(method) = assembly.method(token) else {
+    let Some(method) = sources.method(key) else {
         return Ok(no_info(alloc));
     };
-    let index = token.row() as usize - 1;
-    let clauses = clauses_at(alloc, assembly, method, slots, index)?;
+    let index = token_in(key).row() as usize - 1;
+    let clauses = clauses_in(alloc, sources, file_of(key), method, slots, index)?;
     let info = info_with(alloc, method, clauses)?;
     Ok(info)
 }
 
-/// Returns what callers know of the methods that tokens name, in order.
+/// Returns what callers know of the methods of keys, in order.
 #[tactic(auto, using(crate::proofs::CalleeFacts::short_at, crate::proofs::CalleeFacts::one_more, crate::proofs::CalleeFacts::all_callees))]
 pub(crate) fn callee_infos(
     alloc: Global,
-    assembly: &Assembly<'_>,
-    slots: &mut [Slot],
-    tokens: &[Token],
+    sources: &Sources<'_>,
+    slots: &mut [Vec<Slot>],
+    keys: &[u64],
 ) -> Result<Vec<CalleeInfo>, NoMemory>
-    requires slots { AreSlots assembly.now slots.old }
-    requires short { list_all (has_short_name assembly.now) tokens.now ≡ true }
-    ensures slots { AreSlots assembly.now slots.new }
-    ensures value { IfOk result (λ infos. AreCallees assembly.now tokens.now infos.items) }
+    requires slots { AreAllSlots (files_of sources.now) slots.old }
+    requires short { list_all (has_short_name (info_in (files_of sources.now))) keys.now ≡ true }
+    ensures slots { AreAllSlots (files_of sources.now) slots.new }
+    ensures value { IfOk result (λ infos. AreCallees (info_in (files_of sources.now)) keys.now infos.items) }
 {
     let mut infos = Vec::new(alloc);
-    for token in tokens {
-        infos.push(callee_info(alloc, assembly, slots, *token)?)?;
+    for key in keys {
+        infos.push(callee_info(alloc, sources, slots, *key)?)?;
     }
     Ok(infos)
 }

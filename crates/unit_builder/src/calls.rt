@@ -1,50 +1,69 @@
 //! The methods that a method calls.
 
-ghost use Rattle.std.specs.Prelude.{◌≡◌, ℕ, List, map, Contains, IfOk};
+ghost use Rattle.std.specs.Prelude.{◌≡◌, map, slice_get, Contains, IfOk, Some};
 ghost use Rattle.asm_image.specs.Rows.{methods_of};
 ghost use Rattle.asm_image.specs.declared.method_row.MethodRow.{MethodRow};
 ghost use Rattle.cil_model.specs.declared.unit.Unit.{Unit as MethodUnit};
 ghost use Rattle.unit_builder.specs.Bodies.{callee_tokens};
 ghost use Rattle.unit_builder.specs.Meanings.{as_token};
 ghost use Rattle.unit_builder.specs.Outcomes.{entry_of, outcome_of};
-ghost use Rattle.unit_builder.specs.Slots.{IsSlotOf};
+ghost use Rattle.unit_builder.specs.Scopes.{scope_of, token_in};
+ghost use Rattle.unit_builder.specs.Slots.{AreSlots, IsSlotOf};
 ghost use Rattle.unit_builder.specs.Walks.{body_calls, numbers};
 ghost use Rattle.unit_builder.specs.declared.entry.Outcome.TheVariants.{Analysed};
 
 use crate::entry::{MethodEntry, Outcome};
 use crate::met::FIRST_METHOD;
 use crate::slots::Slot;
+use crate::sources::{Sources, token_in};
 use asm_image::{Assembly, MethodRow};
 use cc_base::{NoMemory, Token};
 use std::alloc::Global;
 
-/// The tokens of methods, by their keys.
-pub(crate) fn tokens_of(alloc: Global, keys: &[u32]) -> Result<Vec<Token>, NoMemory>
-    ensures { IfOk result (λ tokens. tokens.items ≡ map as_token keys.now) }
+/// The tokens of methods by their keys.
+fn tokens_of(alloc: Global, keys: &[u64]) -> Result<Vec<Token>, NoMemory>
+    ensures { IfOk result (λ tokens. tokens.items ≡ map (λ key. as_token (token_in key)) keys.now) }
 {
     let mut tokens = Vec::new(alloc);
     for key in keys {
-        tokens.push(Token(*key))?;
+        tokens.push(token_in(*key))?;
     }
     Ok(tokens)
 }
 
 /// Returns the methods that the code of a method calls. The code is read where it was not read before.
-pub(crate) fn callees_in(
+fn callees_in(
     alloc: Global,
     assembly: &Assembly<'_>,
     method: &MethodRow,
     slot: &mut Slot,
 ) -> Result<Vec<Token>, NoMemory>
-    requires slot { IsSlotOf assembly.now method.now slot.old }
-    ensures slot { IsSlotOf assembly.now method.now slot.new }
+    requires slot { IsSlotOf (scope_of assembly.now) method.now slot.old }
+    ensures slot { IsSlotOf (scope_of assembly.now) method.now slot.new }
     ensures value { (unit : MethodUnit) → outcome_of assembly.now method.now ≡ Analysed unit → IfOk result (λ tokens. tokens.items ≡ callee_tokens assembly.now method.now) }
 {
     if !method.has_il_body() {
         return Ok(Vec::new(alloc));
     }
-    slot.read(alloc, assembly, method)?;
+    slot.read(alloc, &Sources::One(assembly), 0, method)?;
     tokens_of(alloc, slot.callees())
+}
+
+/// The same of the method of an index, by the slots of its file.
+#[tactic(auto, using(crate::proofs::SlotLists::slot_set, crate::proofs::SlotLists::slot_there, crate::proofs::SlotLists::slot_within))]
+pub(crate) fn callees_at(
+    alloc: Global,
+    assembly: &Assembly<'_>,
+    method: &MethodRow,
+    slots: &mut [Slot],
+    index: usize,
+) -> Result<Vec<Token>, NoMemory>
+    requires slots { AreSlots (scope_of assembly.now) slots.old }
+    requires there { slice_get (methods_of assembly.now) index ≡ Some method.now }
+    ensures slots { AreSlots (scope_of assembly.now) slots.new }
+    ensures value { (unit : MethodUnit) → outcome_of assembly.now method.now ≡ Analysed unit → IfOk result (λ tokens. tokens.items ≡ callee_tokens assembly.now method.now) }
+{
+    callees_in(alloc, assembly, method, &mut slots[index])
 }
 
 /// The methods that are called in the body of the method of an entry, each once, in order of first use; none where the

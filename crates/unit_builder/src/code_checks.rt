@@ -10,12 +10,14 @@ ghost use Rattle.cil_model.specs.declared.shape.Shape.{Shape};
 ghost use Rattle.clause_faults.specs.Faults.{first_clause_fault};
 ghost use Rattle.method_code.specs.Reading.{AreContractsOf};
 ghost use Rattle.unit_builder.specs.Reasons.{blocks_in, code_tests, has_short_name, token_test, token_tests, unit_shape};
+ghost use Rattle.unit_builder.specs.Scopes.{info_in};
+ghost use Rattle.unit_builder.specs.Sources.{files_of, scope_at};
 ghost use Rattle.unit_builder.specs.declared.reason.Reason.TheVariants as reasons;
 
 use crate::names::{is_short_name, unit_name};
 use crate::reason::{Reason, UnitRefusal};
-use asm_image::{Assembly, MethodRow};
-use cc_base::Token;
+use crate::sources::Sources;
+use asm_image::MethodRow;
 use cil_model::{Instr, MAX_BLOCKS, MAX_INSTRUCTIONS};
 use clause_faults::ClauseFault;
 use contract_extract::Contracts;
@@ -33,28 +35,29 @@ pub(crate) fn check_count(instrs: &[Instr]) -> Result<(), Reason>
     Ok(())
 }
 
-/// Returns whether the name of the method that a token names fits a unit.
-fn has_short_name(assembly: &Assembly<'_>, token: Token) -> bool
-    ensures { result ≡ has_short_name assembly.now token }
+/// Returns whether the name of the method of a key fits a unit.
+#[tactic(auto, using(crate::proofs::CalleeFacts::short_some, crate::proofs::CalleeFacts::short_none))]
+fn has_short_name(sources: &Sources<'_>, key: u64) -> bool
+    ensures { result ≡ has_short_name (info_in (files_of sources.now)) key }
 {
-    match assembly.method(token) {
+    match sources.method(key) {
         Some(method) => is_short_name(unit_name(method)),
         None => true,
     }
 }
 
-/// Returns whether the names of the methods that tokens name fit a unit.
-fn have_short_names(assembly: &Assembly<'_>, callees: &[Token]) -> bool
-    ensures { result ≡ list_all (has_short_name assembly.now) callees.now }
+/// Returns whether the names of the methods of keys fit a unit.
+fn have_short_names(sources: &Sources<'_>, callees: &[u64]) -> bool
+    ensures { result ≡ list_all (has_short_name (info_in (files_of sources.now))) callees.now }
 {
-    callees.iter().all(|token| has_short_name(assembly, *token))
+    callees.iter().all(|key| has_short_name(sources, *key))
 }
 
 /// Tests that the names of callees fit a unit.
-pub(crate) fn check_callee_names(assembly: &Assembly<'_>, callees: &[Token]) -> Result<(), Reason>
-    ensures { Judges result (must (list_all (has_short_name assembly.now) callees.now) reasons.TooLarge) (λ _. ⊤) }
+pub(crate) fn check_callee_names(sources: &Sources<'_>, callees: &[u64]) -> Result<(), Reason>
+    ensures { Judges result (must (list_all (has_short_name (info_in (files_of sources.now))) callees.now) reasons.TooLarge) (λ _. ⊤) }
 {
-    if have_short_names(assembly, callees) {
+    if have_short_names(sources, callees) {
         Ok(())
     } else {
         Err(Reason::TooLarge)
@@ -120,18 +123,19 @@ pub(crate) fn check_numbers(instrs: &[Instr], callees: usize) -> Result<(), Reas
 #[tactic(auto, using(cc_base::proofs::TestLemmas::carried, cc_base::proofs::TestLemmas::first_tests), unfolding(crate::specs::Reasons::code_tests))]
 pub(crate) fn check_code<'a>(
     alloc: Global,
-    assembly: &Assembly<'_>,
+    sources: &Sources<'_>,
+    file: u32,
     method: &MethodRow,
     instrs: &[Instr],
-    callees: &[Token],
+    callees: &[u64],
     contracts: &'a Result<Contracts, ClauseFault>,
 ) -> Result<&'a Contracts, UnitRefusal>
     requires lie { AreOfShortCode instrs.now }
-    requires contracts { Judges contracts.now (first_clause_fault instrs.now (unit_shape assembly.now method.now)) (AreContractsOf method.now instrs.now) }
-    ensures { JudgesOrNoMemory result (first_of (code_tests assembly.now (unit_shape assembly.now method.now) callees.now instrs.now)) (λ contracts. AreContractsOf method.now instrs.now contracts.now) }
+    requires contracts { Judges contracts.now (first_clause_fault instrs.now (unit_shape (scope_at sources.now file) method.now)) (AreContractsOf method.now instrs.now) }
+    ensures { JudgesOrNoMemory result (first_of (code_tests (scope_at sources.now file) (unit_shape (scope_at sources.now file) method.now) callees.now instrs.now)) (λ contracts. AreContractsOf method.now instrs.now contracts.now) }
 {
     check_count(instrs)?;
-    check_callee_names(assembly, callees)?;
+    check_callee_names(sources, callees)?;
     let contracts = contracts_of(method, instrs, contracts)?;
     check_blocks(alloc, instrs, contracts.body_start)?;
     check_numbers(instrs, callees.len())?;

@@ -1,4 +1,4 @@
-//! The units of an assembly: each method with all that its check depends on, or the first reason why it has none.
+//! The units of an assembly, or of several that are linked: each method with all that its check depends on, or the first reason why it has none.
 #![tactic(auto)]
 
 mod callable;
@@ -7,6 +7,7 @@ mod calls;
 mod code_checks;
 mod entry;
 mod header;
+mod linked;
 mod making;
 mod meaning;
 mod met;
@@ -16,11 +17,13 @@ mod reach;
 mod reason;
 mod row;
 mod slots;
+mod sources;
 mod units;
 mod world;
 
 pub use calls::callee_tokens;
 pub use entry::{MethodEntry, Outcome};
+pub use linked::{FileEntries, build_linked};
 pub use reason::Reason;
 pub use units::{Units, build_units};
 pub use world::{WorldRefusal, world_of};

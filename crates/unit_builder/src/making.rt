@@ -1,16 +1,18 @@
 //! The unit of a method, made of its parts.
 
-ghost use Rattle.std.specs.Prelude.{◌≡◌, ℕ, List, true, option_map, IfOk};
+ghost use Rattle.std.specs.Prelude.{◌≡◌, ◌<◌, true, option_map, IfOk};
 ghost use Rattle.std.specs.List.{list_all};
 ghost use Rattle.cc_base.specs.Tests.{first_of, JudgesOrNoMemory};
 ghost use Rattle.cil_model.specs.Passes.{KindsOf};
 ghost use Rattle.stack_typer.specs.FirstTypeFault.{first_type_fault};
 ghost use Rattle.cil_model.specs.Offsets.{AreLaidOut};
-ghost use Rattle.unit_builder.specs.Bodies.{callee_tokens};
+ghost use Rattle.unit_builder.specs.Bodies.{callee_keys};
 ghost use Rattle.unit_builder.specs.Making.{AreCallees, AreVariablesOf, HasParts, IsOwnCode};
 ghost use Rattle.unit_builder.specs.Reasons.{has_short_name, kind_tests, unit_shape};
 ghost use Rattle.unit_builder.specs.Rows.{IsRowOf};
-ghost use Rattle.unit_builder.specs.Slots.{AreSlots};
+ghost use Rattle.unit_builder.specs.Scopes.{Scope};
+ghost use Rattle.unit_builder.specs.Slots.{AreAllSlots};
+ghost use Rattle.unit_builder.specs.Sources.{files_of, scope_at};
 ghost use Rattle.unit_builder.specs.declared.reason.Reason.TheVariants as reasons;
 ghost use Rattle.signature_blobs.specs.declared.method.SigTypes.TheVariants as types;
 
@@ -20,7 +22,8 @@ use crate::names::unit_name;
 use crate::own_code::OwnCode;
 use crate::reason::{Reason, UnitRefusal};
 use crate::slots::Slot;
-use asm_image::{Assembly, MethodRow};
+use crate::sources::Sources;
+use asm_image::MethodRow;
 use cc_base::{NoMemory, Refusal};
 use cil_model::{CalleeInfo, Instr, List, Shape, Unit};
 use method_code::spell_code;
@@ -48,8 +51,8 @@ fn shape_with(
     variables: &Variables,
     callees: Vec<CalleeInfo>,
 ) -> Result<Shape, NoMemory>
-    ensures { (asm : List ℕ) (method : MethodRow) → method.sig.types ≡ types.Known signature.now → AreVariablesOf asm method variables.now
-        → AreCallees asm (callee_tokens asm method) callees.items → IfOk result (λ shape. shape ≡ unit_shape asm method) }
+    ensures { (scope : Scope) (method : MethodRow) → method.sig.types ≡ types.Known signature.now → AreVariablesOf scope.asm method variables.now
+        → AreCallees scope.info (callee_keys scope method) callees.items → IfOk result (λ shape. shape ≡ unit_shape scope method) }
 {
     Ok(Shape {
         result: signature.result,
@@ -64,23 +67,24 @@ fn shape_with(
 #[tactic(auto, using(cc_base::proofs::TestLemmas::carried, cc_base::proofs::TestLemmas::first_tests))]
 pub(crate) fn make_unit(
     alloc: Global,
-    assembly: &Assembly<'_>,
-    slots: &mut [Slot],
+    sources: &Sources<'_>,
+    file: u32,
+    slots: &mut [Vec<Slot>],
     method: &MethodRow,
     signature: &Signature,
     variables: &Variables,
     own: OwnCode,
 ) -> Result<TypedUnit, UnitRefusal>
-    requires row { IsRowOf assembly.now method.now }
+    requires row { IsRowOf (scope_at sources.now file).asm method.now }
     requires types { method.now.sig.types ≡ types.Known signature.now }
-    requires slots { AreSlots assembly.now slots.old }
-    requires variables { AreVariablesOf assembly.now method.now variables.now }
-    requires own { IsOwnCode assembly.now method.now own }
-    requires short { list_all (has_short_name assembly.now) (callee_tokens assembly.now method.now) ≡ true }
-    ensures slots { AreSlots assembly.now slots.new }
-    ensures judged { JudgesOrNoMemory result (first_of (kind_tests assembly.now method.now)) (HasParts assembly.now method.now) }
+    requires slots { AreAllSlots (files_of sources.now) slots.old }
+    requires variables { AreVariablesOf (scope_at sources.now file).asm method.now variables.now }
+    requires own { IsOwnCode (scope_at sources.now file) method.now own }
+    requires short { list_all (has_short_name (scope_at sources.now file).info) (callee_keys (scope_at sources.now file) method.now) ≡ true }
+    ensures slots { AreAllSlots (files_of sources.now) slots.new }
+    ensures judged { JudgesOrNoMemory result (first_of (kind_tests (scope_at sources.now file) method.now)) (HasParts (scope_at sources.now file) method.now) }
 {
-    let callees = callee_infos(alloc, assembly, slots, &own.callees)?;
+    let callees = callee_infos(alloc, sources, slots, &own.callees)?;
     let shape = shape_with(alloc, signature, variables, callees)?;
     let kinds = find_kinds(alloc, own.instrs.as_slice(), &shape)?;
     let name = Vec::from_slice(alloc, unit_name(method))?;

@@ -4,7 +4,7 @@ ghost use Rattle.std.specs.Prelude.{◌≡◌, ◌++◌, ⊤, ℕ, List};
 ghost use Rattle.asm_image.specs.Names.{types_text};
 ghost use Rattle.cc_base.specs.Tests.{Judges};
 ghost use Rattle.signature_blobs.specs.declared.method.SigTypes.{SigTypes};
-ghost use Rattle.unit_builder.specs.Bodies.{unit_name};
+ghost use Rattle.unit_builder.specs.Callees.{unit_name};
 ghost use Rattle.unit_builder.specs.Reasons.{is_short_name, name_test};
 ghost use Rattle.unit_builder.specs.Rows.{IsRowOf};
 

@@ -1,14 +1,16 @@
 //! The code of the methods, read once.
 
-ghost use Rattle.std.specs.Prelude.{◌≡◌, ℕ, List, None, true, map, IfOk, OnOk};
+ghost use Rattle.std.specs.Prelude.{◌≡◌, ◌<◌, None, true, IfOk, OnOk};
 ghost use Rattle.asm_image.specs.Bodies.{has_il_body};
 ghost use Rattle.asm_image.specs.declared.method_row.MethodRow.{MethodRow};
 ghost use Rattle.cc_base.specs.Tests.{Judges};
-ghost use Rattle.unit_builder.specs.Bodies.{callee_tokens, clauses_of, il_fault};
-ghost use Rattle.unit_builder.specs.Meanings.{as_token};
+ghost use Rattle.unit_builder.specs.Bodies.{callee_keys, clauses_of, il_fault};
+ghost use Rattle.unit_builder.specs.Scopes.{Scope};
 ghost use Rattle.unit_builder.specs.Slots.{IsSlotOf, IsSpent, IsWhole, TellsClauses};
+ghost use Rattle.unit_builder.specs.Sources.{files_of, scope_at, scope_with};
 
-use crate::meaning::AssemblyTokens;
+use crate::meaning::FileTokens;
+use crate::sources::Sources;
 use asm_image::{Assembly, MethodRow};
 use cc_base::{NoMemory, Refusal};
 use cil_model::{Clause, Instr, List};
@@ -33,27 +35,47 @@ pub(crate) enum Slot {
 /// The code of a method, or what is wrong with it.
 pub(crate) type Found = Result<MethodCode, IlFault>;
 
-/// Reads the code of a method.
+/// Reads the code of a method of a file that is this assembly.
 #[tactic(auto, using(crate::proofs::SlotFacts::body_faulty, crate::proofs::SlotFacts::code_faulty, crate::proofs::SlotFacts::code_whole))]
-fn find_code(alloc: Global, assembly: &Assembly<'_>, method: &MethodRow) -> Result<Found, NoMemory>
+fn find_in(
+    alloc: Global,
+    sources: &Sources<'_>,
+    file: u32,
+    assembly: &Assembly<'_>,
+    method: &MethodRow,
+) -> Result<Found, NoMemory>
     requires body { has_il_body method.now ≡ true }
-    ensures { IfOk result (λ found. Judges found (il_fault assembly.now method.now) (IsWhole assembly.now method.now)) }
+    ensures { IfOk result (λ found. Judges found (il_fault assembly.now method.now) (IsWhole (scope_with sources.now file assembly.now) method.now)) }
 {
     let body = match body_at(assembly.image(), method.rva) {
         Ok(body) => body,
         Err(fault) => return Ok(Err(fault)),
     };
-    match read_code(alloc, &AssemblyTokens { assembly }, method, body.code) {
+    match read_code(alloc, &FileTokens { sources, file }, method, body.code) {
         Ok(code) => Ok(Ok(code)),
         Err(Refusal::Bad(fault)) => Ok(Err(fault)),
         Err(Refusal::NoMemory) => Err(AllocError),
     }
 }
 
+/// Reads the code of a method.
+fn find_code(
+    alloc: Global,
+    sources: &Sources<'_>,
+    file: u32,
+    method: &MethodRow,
+) -> Result<Found, NoMemory>
+    requires file { file < (files_of sources.now).count }
+    requires body { has_il_body method.now ≡ true }
+    ensures { IfOk result (λ found. Judges found (il_fault (scope_at sources.now file).asm method.now) (IsWhole (scope_at sources.now file) method.now)) }
+{
+    find_in(alloc, sources, file, sources.assembly(file), method)
+}
+
 impl Slot {
     /// Returns what is kept of code that was found.
     fn of(found: Found) -> Slot
-        ensures { (asm : List ℕ) (method : MethodRow) → Judges found (il_fault asm method) (IsWhole asm method) → TellsClauses asm method result }
+        ensures { (scope : Scope) (method : MethodRow) → Judges found (il_fault scope.asm method) (IsWhole scope method) → TellsClauses scope method result }
     {
         match found {
             Ok(code) => Slot::Whole(code),
@@ -65,23 +87,25 @@ impl Slot {
     pub(crate) fn read(
         &mut self,
         alloc: Global,
-        assembly: &Assembly<'_>,
+        sources: &Sources<'_>,
+        file: u32,
         method: &MethodRow,
     ) -> Result<(), NoMemory>
-        requires slot { IsSlotOf assembly.now method.now self.old }
+        requires file { file < (files_of sources.now).count }
+        requires slot { IsSlotOf (scope_at sources.now file) method.now self.old }
         requires body { has_il_body method.now ≡ true }
-        ensures slot { IsSlotOf assembly.now method.now self.new }
-        ensures told { OnOk result (TellsClauses assembly.now method.now self.new) }
+        ensures slot { IsSlotOf (scope_at sources.now file) method.now self.new }
+        ensures told { OnOk result (TellsClauses (scope_at sources.now file) method.now self.new) }
     {
         if matches!(self, Slot::Unread) {
-            *self = Slot::of(find_code(alloc, assembly, method)?);
+            *self = Slot::of(find_code(alloc, sources, file, method)?);
         }
         Ok(())
     }
 
     /// Returns what callers know of the method by its code: its clauses.
     pub(crate) fn clauses(&self) -> &[Clause]
-        ensures { (asm : List ℕ) (method : MethodRow) → TellsClauses asm method self.now → result.now ≡ clauses_of asm method }
+        ensures { (scope : Scope) (method : MethodRow) → TellsClauses scope method self.now → result.now ≡ clauses_of scope method }
     {
         match self {
             Slot::Whole(code) | Slot::Spent(code) => code.clauses(),
@@ -92,8 +116,8 @@ impl Slot {
     /// The keys of the methods that the code calls, each once, in order of first use. None where the code does not
     /// read.
     #[tactic(auto, using(crate::proofs::CallFacts::whole_callees, crate::proofs::CallFacts::spent_callees))]
-    pub(crate) fn callees(&self) -> &[u32]
-        ensures { (asm : List ℕ) (method : MethodRow) → TellsClauses asm method self.now → il_fault asm method ≡ None → map as_token result.now ≡ callee_tokens asm method }
+    pub(crate) fn callees(&self) -> &[u64]
+        ensures { (scope : Scope) (method : MethodRow) → TellsClauses scope method self.now → il_fault scope.asm method ≡ None → result.now ≡ callee_keys scope method }
     {
         match self {
             Slot::Whole(code) => code.callees.as_slice(),
@@ -106,17 +130,19 @@ impl Slot {
     pub(crate) fn into_found(
         self,
         alloc: Global,
-        assembly: &Assembly<'_>,
+        sources: &Sources<'_>,
+        file: u32,
         method: &MethodRow,
     ) -> Result<Found, NoMemory>
-        requires slot { IsSlotOf assembly.now method.now self }
+        requires file { file < (files_of sources.now).count }
+        requires slot { IsSlotOf (scope_at sources.now file) method.now self }
         requires body { has_il_body method.now ≡ true }
-        ensures { IfOk result (λ found. Judges found (il_fault assembly.now method.now) (IsWhole assembly.now method.now)) }
+        ensures { IfOk result (λ found. Judges found (il_fault (scope_at sources.now file).asm method.now) (IsWhole (scope_at sources.now file) method.now)) }
     {
         match self {
             Slot::Whole(code) => Ok(Ok(code)),
             Slot::Faulty(fault) => Ok(Err(fault)),
-            Slot::Unread | Slot::Spent(_) => find_code(alloc, assembly, method),
+            Slot::Unread | Slot::Spent(_) => find_code(alloc, sources, file, method),
         }
     }
 }

@@ -1,27 +1,34 @@
-//! The units of an assembly, made on demand.
+//! The units of files, made on demand.
 
-ghost use Rattle.std.specs.Prelude.{◌≡◌, ◌<◌, ℕ, List, length, slice_get, Some, Err, IfOk};
+ghost use Rattle.std.specs.Prelude.{◌≡◌, ◌<◌, ◌≤◌, length, replicate, slice_get, Some, Err, IfOk};
 ghost use Rattle.std.specs.List.{AllByRecursion};
 ghost use Rattle.asm_image.specs.Rows.{methods_of};
 ghost use Rattle.asm_image.specs.declared.method_row.MethodRow.{MethodRow};
-ghost use Rattle.cc_base.specs.Tests.{first_of, JudgesOrNoMemory};
+ghost use Rattle.cc_base.specs.Tests.{first_of, Judges, JudgesOrNoMemory};
 ghost use Rattle.cil_model.specs.declared.unit.Unit.{Unit as MethodUnit};
 ghost use Rattle.unit_builder.specs.Bodies.{callee_tokens};
-ghost use Rattle.unit_builder.specs.Making.{HasParts, IsMade};
+ghost use Rattle.il_decoder.specs.Body.{header_at};
+ghost use Rattle.method_code.specs.OfMethods.{args_of};
+ghost use Rattle.unit_builder.specs.Making.{AreVariablesOf, HasParts, IsMade};
 ghost use Rattle.method_unit.specs.Units.{IsUnit};
-ghost use Rattle.unit_builder.specs.Outcomes.{IfAnalysed, entries_of, entry_of, outcome_of};
-ghost use Rattle.unit_builder.specs.Reasons.{reason_tests};
-ghost use Rattle.unit_builder.specs.Slots.{AreSlots};
+ghost use Rattle.unit_builder.specs.Outcomes.{IfAnalysed, entries_of, entry_of, outcome_in, outcome_of};
+ghost use Rattle.unit_builder.specs.Reasons.{header_tests, reason_tests};
+ghost use Rattle.unit_builder.specs.Rows.{IsRowOf};
+ghost use Rattle.unit_builder.specs.Scopes.{Scope};
+ghost use Rattle.unit_builder.specs.Slots.{AreAllSlots};
+ghost use Rattle.unit_builder.specs.Sources.{files_of, scope_at};
+ghost use Rattle.unit_builder.specs.declared.slots.Slot.TheVariants.{Unread};
 ghost use Rattle.unit_builder.specs.declared.entry.Outcome.TheVariants.{Analysed};
 
-use crate::calls::callees_in;
+use crate::calls::callees_at;
 use crate::entry::{MethodEntry, Outcome};
-use crate::header::read_variables;
+use crate::header::{Variables, read_variables};
 use crate::making::make_unit;
-use crate::own_code::own_code;
-use crate::reason::UnitRefusal;
+use crate::own_code::own_code_in;
+use crate::reason::{Reason, UnitRefusal};
 use crate::row::check_row;
 use crate::slots::Slot;
+use crate::sources::Sources;
 use asm_image::{Assembly, MethodRow};
 use cc_base::{NoMemory, Refusal, Token};
 use cil_model::List;
@@ -36,8 +43,8 @@ use std::marker::Model;
 #[derive(Drop)]
 pub struct Units<'a> {
     assembly: &'a Assembly<'a>,
-    /// For each method, in the order of the table MethodDef.
-    slots: Vec<Slot>,
+    /// Those of the one file: for each method, in the order of the table MethodDef.
+    slots: Vec<Vec<Slot>>,
 }
 
 impl<'a> Model for Units<'a> {
@@ -47,51 +54,75 @@ impl<'a> Model for Units<'a> {
 
     ghost view = { λ units. units.assembly.now };
 
-    ghost use Rattle.unit_builder.specs.Slots.{AreSlots};
+    ghost use Rattle.unit_builder.specs.Scopes.{alone};
+    ghost use Rattle.unit_builder.specs.Slots.{AreAllSlots};
 
-    ghost invariant = { λ units. AreSlots units.assembly.now units.slots.items };
+    ghost invariant = { λ units. AreAllSlots (alone units.assembly.now) units.slots.items };
+}
+
+/// Tests the header of a method of a file with so many arguments, and then the method's name.
+fn variables_in(
+    sources: &Sources<'_>,
+    file: u32,
+    method: &MethodRow,
+    args: usize,
+) -> Result<Variables, Reason>
+    requires file { file < (files_of sources.now).count }
+    requires row { IsRowOf (scope_at sources.now file).asm method.now }
+    requires args { args ≡ length (args_of method.now.sig.types) }
+    requires few { args ≤ 256 }
+    ensures judged { Judges result (first_of (header_tests (scope_at sources.now file).asm method.now (header_at (scope_at sources.now file).asm method.now.rva)))
+        (AreVariablesOf (scope_at sources.now file).asm method.now) }
+{
+    read_variables(sources.assembly(file), method, args)
 }
 
 /// Returns the unit of the method of an index, made of its parts, or the first reason why it has none.
-#[tactic(auto, using(cc_base::proofs::TestLemmas::carried, cc_base::proofs::TestLemmas::appended, crate::proofs::RowFacts::indexed_row, crate::proofs::SlotLists::slot_set, crate::proofs::SlotLists::slot_there, crate::proofs::SlotLists::slot_within, crate::proofs::TestParts::row_body, crate::proofs::TestParts::own_short), unfolding(crate::specs::Reasons::reason_tests))]
+#[tactic(auto, using(cc_base::proofs::TestLemmas::carried, cc_base::proofs::TestLemmas::appended, crate::proofs::RowFacts::indexed_row, crate::proofs::TestParts::row_body, crate::proofs::TestParts::own_short), unfolding(crate::specs::Reasons::reason_tests))]
 fn parts_at(
     alloc: Global,
-    assembly: &Assembly<'_>,
-    slots: &mut [Slot],
+    sources: &Sources<'_>,
+    file: u32,
+    slots: &mut [Vec<Slot>],
     index: usize,
     method: &MethodRow,
 ) -> Result<TypedUnit, UnitRefusal>
-    requires slots { AreSlots assembly.now slots.old }
-    requires there { slice_get (methods_of assembly.now) index ≡ Some method.now }
-    ensures slots { AreSlots assembly.now slots.new }
-    ensures judged { JudgesOrNoMemory result (first_of (reason_tests assembly.now method.now)) (HasParts assembly.now method.now) }
+    requires file { file < (files_of sources.now).count }
+    requires slots { AreAllSlots (files_of sources.now) slots.old }
+    requires there { slice_get (methods_of (scope_at sources.now file).asm) index ≡ Some method.now }
+    ensures slots { AreAllSlots (files_of sources.now) slots.new }
+    ensures judged { JudgesOrNoMemory result (first_of (reason_tests (scope_at sources.now file) method.now)) (HasParts (scope_at sources.now file) method.now) }
 {
     let signature = check_row(method)?;
-    let variables = read_variables(assembly, method, signature.args.len())?;
-    let own = own_code(alloc, assembly, method, &mut slots[index])?;
-    make_unit(alloc, assembly, slots, method, signature, &variables, own)
+    let variables = variables_in(sources, file, method, signature.args.len())?;
+    let own = own_code_in(alloc, sources, file, method, slots, index)?;
+    make_unit(
+        alloc, sources, file, slots, method, signature, &variables, own,
+    )
 }
 
 /// The same, as the rest of the project takes units.
 fn unit_at(
     alloc: Global,
-    assembly: &Assembly<'_>,
-    slots: &mut [Slot],
+    sources: &Sources<'_>,
+    file: u32,
+    slots: &mut [Vec<Slot>],
     index: usize,
     method: &MethodRow,
 ) -> Result<TypedUnit, UnitRefusal>
-    requires slots { AreSlots assembly.now slots.old }
-    requires there { slice_get (methods_of assembly.now) index ≡ Some method.now }
-    ensures slots { AreSlots assembly.now slots.new }
-    ensures judged { JudgesOrNoMemory result (first_of (reason_tests assembly.now method.now)) (IsMade assembly.now method.now) }
+    requires file { file < (files_of sources.now).count }
+    requires slots { AreAllSlots (files_of sources.now) slots.old }
+    requires there { slice_get (methods_of (scope_at sources.now file).asm) index ≡ Some method.now }
+    ensures slots { AreAllSlots (files_of sources.now) slots.new }
+    ensures judged { JudgesOrNoMemory result (first_of (reason_tests (scope_at sources.now file) method.now)) (IsMade (scope_at sources.now file) method.now) }
 {
-    parts_at(alloc, assembly, slots, index, method)
+    parts_at(alloc, sources, file, slots, index, method)
 }
 
 /// Returns what comes of a method that has no unit.
 fn skipped(refusal: UnitRefusal) -> Result<Outcome, NoMemory>
-    ensures value { (asm : List ℕ) (method : MethodRow) → JudgesOrNoMemory (Err refusal) (first_of (reason_tests asm method)) (IsMade asm method)
-        → IfOk result (λ outcome. outcome ≡ outcome_of asm method) }
+    ensures value { (scope : Scope) (method : MethodRow) → JudgesOrNoMemory (Err refusal) (first_of (reason_tests scope method)) (IsMade scope method)
+        → IfOk result (λ outcome. outcome ≡ outcome_in scope method) }
     ensures unit { IfOk result (λ outcome. IfAnalysed outcome IsUnit) }
 {
     match refusal {
@@ -102,9 +133,9 @@ fn skipped(refusal: UnitRefusal) -> Result<Outcome, NoMemory>
 
 /// Returns what comes of a method that has a unit or not.
 fn outcome_of(unit: Result<TypedUnit, UnitRefusal>) -> Result<Outcome, NoMemory>
-    ensures value { (asm : List ℕ) (method : MethodRow) → JudgesOrNoMemory unit (first_of (reason_tests asm method)) (IsMade asm method)
-        → IfOk result (λ outcome. outcome ≡ outcome_of asm method) }
-    ensures unit { (asm : List ℕ) (method : MethodRow) → JudgesOrNoMemory unit (first_of (reason_tests asm method)) (IsMade asm method)
+    ensures value { (scope : Scope) (method : MethodRow) → JudgesOrNoMemory unit (first_of (reason_tests scope method)) (IsMade scope method)
+        → IfOk result (λ outcome. outcome ≡ outcome_in scope method) }
+    ensures unit { (scope : Scope) (method : MethodRow) → JudgesOrNoMemory unit (first_of (reason_tests scope method)) (IsMade scope method)
         → IfOk result (λ outcome. IfAnalysed outcome IsUnit) }
 {
     match unit {
@@ -113,15 +144,43 @@ fn outcome_of(unit: Result<TypedUnit, UnitRefusal>) -> Result<Outcome, NoMemory>
     }
 }
 
+/// Returns what comes of the method of an index in a file.
+pub(crate) fn outcome_at(
+    alloc: Global,
+    sources: &Sources<'_>,
+    file: u32,
+    slots: &mut [Vec<Slot>],
+    index: usize,
+    method: &MethodRow,
+) -> Result<Outcome, NoMemory>
+    requires file { file < (files_of sources.now).count }
+    requires slots { AreAllSlots (files_of sources.now) slots.old }
+    requires there { slice_get (methods_of (scope_at sources.now file).asm) index ≡ Some method.now }
+    ensures slots { AreAllSlots (files_of sources.now) slots.new }
+    ensures value { IfOk result (λ outcome. outcome ≡ outcome_in (scope_at sources.now file) method.now) }
+    ensures unit { IfOk result (λ outcome. IfAnalysed outcome IsUnit) }
+{
+    outcome_of(unit_at(alloc, sources, file, slots, index, method))
+}
+
+/// A slot for each method of a file. Nothing is read yet.
+pub(crate) fn fresh_slots(alloc: Global, assembly: &Assembly<'_>) -> Result<Vec<Slot>, NoMemory>
+    ensures { IfOk result (λ slots. slots.items ≡ replicate (length (methods_of assembly.now)) Unread) }
+{
+    let mut slots = Vec::new(alloc);
+    for _method in assembly.methods() {
+        slots.push(Slot::Unread)?;
+    }
+    Ok(slots)
+}
+
 impl<'a> Units<'a> {
     /// The units of an assembly. Nothing is read yet.
     pub fn of(alloc: Global, assembly: &'a Assembly<'a>) -> Result<Units<'a>, NoMemory>
         ensures { IfOk result (λ units. units ≡ assembly.now) }
     {
         let mut slots = Vec::new(alloc);
-        for _method in assembly.methods() {
-            slots.push(Slot::Unread)?;
-        }
+        slots.push(fresh_slots(alloc, assembly)?)?;
         Ok(Units { assembly, slots })
     }
 
@@ -138,6 +197,7 @@ impl<'a> Units<'a> {
     /// Cost: what its code and the code of its callees take to be read, where nobody asked for them before; and besides
     /// the passes that find kinds. The unit takes the instructions with it: who asks for the same unit again pays for
     /// the code again.
+    #[tactic(auto, unfolding(crate::specs::Outcomes::outcome_of))]
     pub fn outcome(&mut self, alloc: Global, index: usize) -> Result<Outcome, NoMemory>
         requires there { index < length (methods_of self.old) }
         ensures same { self.new ≡ self.old }
@@ -145,10 +205,18 @@ impl<'a> Units<'a> {
         ensures unit { IfOk result (λ outcome. IfAnalysed outcome IsUnit) }
     {
         let method = &self.assembly.methods()[index];
-        outcome_of(unit_at(alloc, self.assembly, &mut self.slots, index, method))
+        outcome_at(
+            alloc,
+            &Sources::One(self.assembly),
+            0,
+            &mut self.slots,
+            index,
+            method,
+        )
     }
 
     /// The methods that are called in the body of the analysed method of an index, each once, in order of first use.
+    #[tactic(auto, using(crate::proofs::SlotLists::file_set, crate::proofs::SlotLists::file_there, crate::proofs::SlotLists::file_within))]
     pub(crate) fn callees(&mut self, alloc: Global, index: usize) -> Result<Vec<Token>, NoMemory>
         requires there { index < length (methods_of self.old) }
         ensures same { self.new ≡ self.old }
@@ -156,7 +224,7 @@ impl<'a> Units<'a> {
             → outcome_of self.old method ≡ Analysed unit → IfOk result (λ tokens. tokens.items ≡ callee_tokens self.old method) }
     {
         let method = &self.assembly.methods()[index];
-        callees_in(alloc, self.assembly, method, &mut self.slots[index])
+        callees_at(alloc, self.assembly, method, &mut self.slots[0], index)
     }
 }
 

@@ -1,5 +1,5 @@
 -- The numbers of calls of the class `Contract` lie below those of callees.
-use Rattle.std.proofs.Common.{ℕ, ◌+◌, ◌<◌, Bool, true, false, List, [], ◌∷◌, Option, Some, None, option_map, arith, if◌then◌else◌}
+use Rattle.std.proofs.Common.{ℕ, ◌+◌, ◌<◌, Bool, true, false, List, [], ◌∷◌, Option, Some, None, option_map, slice_get, arith, if◌then◌else◌}
 use Rattle.std.specs.List.{AllByRecursion}
 use Rattle.std.specs.Option.{option_and_then, option_map_or}
 use Rattle.asm_image.specs.Bodies.{method_of}
@@ -14,7 +14,16 @@ use Rattle.method_code.specs.Meanings.{HasSmallNumbers, IsSmall}
 use Rattle.method_code.specs.declared.call.Call.TheVariants as calls
 use Rattle.pe_reader.specs.Addresses.{metadata}
 use Rattle.unit_builder.specs.Callable.{is_callable}
+use Rattle.asm_image.specs.declared.callee.Callee.{Callee}
+use Rattle.asm_image.specs.declared.callee.Callee.TheVariants.{Method, ContractCall, Outside}
+use Rattle.asm_links.specs.Targets.{target}
+use Rattle.cc_base.specs.declared.token.Token.{Token}
+use Rattle.unit_builder.specs.Linked.{call_to, linked_call, linked_meaning, linked_meaning_by, linked_method}
 use Rattle.unit_builder.specs.Meanings.{call_by, called, meaning_of}
+use Rattle.unit_builder.specs.Scopes.{key_at}
+use Rattle.unit_builder.specs.Sources.{files_of}
+use Rattle.unit_builder.specs.declared.sources.Sources.{Sources}
+use Rattle.unit_builder.specs.declared.sources.Sources.TheVariants.{One, Linked}
 
 abbrev Below : ℕ → Option ℕ → Type 0
 Below most None = Unit {0}
@@ -58,21 +67,64 @@ plain_below : (md : List ℕ) (row : ℕ) → Below 100 (member_number md plain_
 plain_below md row =
     member_below 100 md plain_methods row (omega arith, (omega arith, (omega arith, (omega arith, (omega arith, (omega arith, (omega arith, (omega arith, (omega arith, tt)))))))))
 
+-- ---- what a token calls
+
+abbrev IsSmallCallee : Callee → Type 0
+IsSmallCallee (ContractCall operation) = operation.0 < 100
+IsSmallCallee (Method token) = Unit {0}
+IsSmallCallee Outside = Unit {0}
+
+number_small : (number : Option ℕ) → Below 100 number → IsSmallCallee (numbered number)
+number_small None less = tt
+number_small (Some n) less = less
+
+small_by : (md : List ℕ) (token : ℕ) (method member instance : Option ℕ) → IsSmallCallee (callee_by md token method member instance)
+small_by md token (Some method) member instance = tt
+small_by md token None (Some member) instance = number_small (member_number md plain_methods member) (plain_below md member)
+small_by md token None None (Some instance) = number_small (instance_number md instance) (instance_below md instance)
+small_by md token None None None = tt
+
+callee_small : (md : List ℕ) (token : ℕ) → IsSmallCallee (callee_of md token)
+unfolding callee_of
+callee_small md token = small_by md token (row_in md method_def token) (row_in md member_ref token) (row_in md method_spec token)
+
 method_small : (key : ℕ) (b : Bool) → IsSmall (if b then calls.Callee key else calls.Unknown)
 method_small key true = tt
 method_small key false = tt
 
-module _ (asm : List ℕ) where
-  number_small : (number : Option ℕ) → Below 100 number → IsSmall (call_by asm (numbered number))
-  number_small None less = tt
-  number_small (Some n) less = less
+-- ---- a file alone
 
-  small_by : (md : List ℕ) (token : ℕ) (method member instance : Option ℕ) → IsSmall (call_by asm (callee_by md token method member instance))
-  small_by md token (Some method) member instance = method_small token (option_map_or is_callable (method_of asm (record { 0 = token })) false)
-  small_by md token None (Some member) instance = number_small (member_number md plain_methods member) (plain_below md member)
-  small_by md token None None (Some instance) = number_small (instance_number md instance) (instance_below md instance)
-  small_by md token None None None = tt
+call_small : (asm : List ℕ) (callee : Callee) → IsSmallCallee callee → IsSmall (call_by asm callee)
+call_small asm (Method token) small = method_small token.0 (option_map_or is_callable (method_of asm token) false)
+call_small asm (ContractCall operation) small = small
+call_small asm Outside small = tt
 
-  pub numbers_small : HasSmallNumbers (meaning_of asm)
-  unfolding called callee_of
-  numbers_small token = let md = metadata asm in small_by md token (row_in md method_def token) (row_in md member_ref token) (row_in md method_spec token)
+numbers_small : (asm : List ℕ) → HasSmallNumbers (meaning_of asm)
+unfolding called
+numbers_small asm token = call_small asm (callee_of (metadata asm) token) (callee_small (metadata asm) token)
+
+-- ---- linked files
+
+home_small : (files : List (List ℕ)) (home : Option (ℕ × Token)) → IsSmall (call_to files home)
+home_small files None = tt
+home_small files (Some home) = method_small (key_at home.0 home.1.0) (option_map_or is_callable (linked_method files (key_at home.0 home.1.0)) false)
+
+linked_call_small : (files : List (List ℕ)) (callee : Callee) (home : Option (ℕ × Token)) → IsSmallCallee callee → IsSmall (linked_call files callee home)
+linked_call_small files (ContractCall operation) home small = small
+linked_call_small files (Method token) home small = home_small files home
+linked_call_small files Outside home small = home_small files home
+
+linked_small_by : (files : List (List ℕ)) (file : ℕ) (asm : Option (List ℕ)) → HasSmallNumbers (linked_meaning_by files file asm)
+linked_small_by files file None token = tt
+linked_small_by files file (Some asm) token =
+    linked_call_small files (callee_of (metadata asm) token) (target files file token) (callee_small (metadata asm) token)
+
+linked_small : (files : List (List ℕ)) (file : ℕ) → HasSmallNumbers (linked_meaning files file)
+unfolding linked_meaning
+linked_small files file = linked_small_by files file (slice_get files file)
+
+-- ---- any files
+
+pub small_in : (sources : Sources) (file : ℕ) → HasSmallNumbers ((files_of sources).meaning file)
+small_in (One assembly) file = numbers_small assembly.now
+small_in (Linked links) file = linked_small links.now file

@@ -1,8 +1,11 @@
-use Rattle.std.proofs.Common.{rules}
-use Rattle.unit_builder.proofs.SlotFacts.{code_whole}
+use Rattle.std.proofs.Common.{ℕ, List, subst, IfOk}
+use Rattle.cc_base.specs.Tests.{Judges}
+use Rattle.unit_builder.specs.Bodies.{il_fault}
+use Rattle.unit_builder.specs.Slots.{IsWhole}
+use Rattle.unit_builder.specs.Sources.{scope_with}
 use Rattle.unit_builder.proofs.slots.find_code.Goals as goal
 
-pub returns-in-Ok-read_code : goal.returns-in-Ok-read_code
-returns-in-Ok-read_code c =
-    let whole = code_whole c.args.assembly.now c.args.method.now c.in-Ok.body.code.now c.in-Ok-read_code.code c.requires.body (search rules) (search rules) (search rules) (search rules) in
-    (whole.faultless, whole)
+pub returns : goal.returns
+returns c =
+    subst (λ (asm : List ℕ). IfOk c.find_in.result (λ found. Judges found (il_fault asm c.args.method.now) (IsWhole (scope_with c.args.sources.now c.args.file asm) c.args.method.now)))
+    c.assembly.ensures c.find_in.ensures

@@ -1,0 +1,4 @@
+pub mod Keys
+pub mod Homes
+pub mod Laws
+pub mod Targets
