@@ -9,6 +9,9 @@ import struct
 import subprocess
 import sys
 
+sys.dont_write_bytecode = True
+import proof_changes
+
 TOP = os.path.dirname(os.path.dirname(os.path.realpath(__file__)))
 MOST_BYTES = 100_000
 COMPILE = ["mcs", "-target:library", "-d:CONTRACTS_FULL", "-nowarn:162,168,219,665,1691,1717,1718"]
@@ -42,7 +45,6 @@ NUMBERS = [0, 1, 2, 3, 0x7F, 0x80, 0xFF, 0x100, 0x7FFF, 0x8000, 0xFFFF, 0x10000,
 
 def script(name):
     """Another script of checks/, as a module."""
-    sys.dont_write_bytecode = True
     loader = importlib.machinery.SourceFileLoader(name, f"{TOP}/checks/{name}")
     module = importlib.util.module_from_spec(importlib.util.spec_from_loader(name, loader))
     loader.exec_module(module)
@@ -335,6 +337,25 @@ def cache_mutant(chance, caches, good, entries):
             entries[at:at] = [(key[: chance.randrange(1 + len(key))] if pick == 3 else key, invariant)]
     data = caches.spelled(chance.choice([1, 2, 2, 2]), entries)
     if chance.random() < 0.3:
+        data = bytearray(data)
+        change_bytes(chance, data, data[::-1])
+    return bytes(data)
+
+
+def proof_mutant(chance, data):
+    """A proof file with entries changed in a line, doubled, left out or another unit's, or with bytes changed."""
+    entries = [lines for _, lines in proof_changes.entries_of(data.decode("ascii"))]
+    for _ in range(chance.choice([0, 1, 1, 2, 5]) if entries else 0):
+        at = chance.randrange(len(entries))
+        unit, *lines = entries[at]
+        changes = [[[unit, *chance.choice(entries)[1:]]], [entries[at], entries[at]], []]
+        if chance.random() < 0.8 and len(lines) > 1:
+            changes = [[proof_changes.changed(chance, entries[at], 1 + chance.randrange(len(lines) - 1))]]
+        entries[at : at + 1] = chance.choice(changes)
+        if not entries:
+            break
+    data = proof_changes.text_of(entries).encode()
+    if chance.random() < 0.2:
         data = bytearray(data)
         change_bytes(chance, data, data[::-1])
     return bytes(data)

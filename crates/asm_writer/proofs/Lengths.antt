@@ -1,5 +1,5 @@
 -- How many bytes the parts have.
-use Rattle.std.proofs.Common.{◌≡◌, ℕ, ◌+◌, ◌*◌, ◌≤◌, ◌<◌, ◌^◌, List, [], ◌∷◌, ◌++◌, length, Bool, true, false, refl, sym, add-zero, zero-add, add_assoc, ap, ◌∙◌, arith, IsFalse, nat_le, ◌&&◌}
+use Rattle.std.proofs.Common.{◌≡◌, ℕ, ◌+◌, ◌*◌, ◌≤◌, ◌<◌, ◌^◌, List, [], ◌∷◌, ◌++◌, length, map, Bool, true, false, refl, sym, add-zero, zero-add, add_assoc, ap, ◌∙◌, arith, IsFalse, nat_le, ◌&&◌}
 use Rattle.std.specs.List.{flat_map, sum_by, list_all}
 use Rattle.std.proofs.lemmas.List.{length-append, length-replicate}
 use Rattle.std.proofs.lemmas.List.Sums.{sum_by-cons, sum_by-append}
@@ -8,23 +8,25 @@ use Rattle.asm_writer.specs.declared.layout.Layout.{Layout}
 use Rattle.asm_writer.specs.declared.number.Number.{Number}
 use Rattle.asm_writer.specs.declared.number.Number.TheVariants.{Zeros, Two, Four, Eight}
 use Rattle.asm_writer.specs.declared.plan.AsmPlan.{AsmPlan}
+use Rattle.asm_writer.specs.declared.plan.Extern.{Extern}
 use Rattle.asm_writer.specs.declared.plan.MethodPlan.{MethodPlan}
 use Rattle.asm_writer.specs.declared.table.Table.{Table}
-use Rattle.asm_writer.specs.Assembly.{section, section_of, assembly_bytes}
+use Rattle.asm_writer.specs.Assembly.{section, section_of, linked_bytes, assembly_bytes}
 use Rattle.cil_model.specs.Limits.{MAX_FILE_BYTES}
 use Rattle.asm_writer.specs.Blobs.{blob_items, blob_heap}
-use Rattle.asm_writer.specs.Limits.{is_within}
+use Rattle.asm_writer.specs.Limits.{is_within, is_short_extern}
+use Rattle.asm_writer.specs.Linked.{Linked, alone}
 use Rattle.asm_writer.specs.Bodies.{locals_row, body_header, body, body_item, bodies}
 use Rattle.asm_writer.specs.Each.{each_from}
 use Rattle.asm_writer.specs.Headers.{file_alignment, bodies_rva, cli_header, cli_header_size, headers, section_header}
 use Rattle.asm_writer.specs.Metadata.{user_strings, guids, streams, joined, root, root_size, metadata}
-use Rattle.asm_writer.specs.Names.{string_items, strings_heap}
+use Rattle.asm_writer.specs.Names.{cited_names, name_item, method_name_item, extern_name_items, own_name_items, zero_ended, string_items, strings_heap}
 use Rattle.asm_writer.specs.Layout.{layout_of, field_number, field_bytes, fields_bytes, rows_bytes}
 use Rattle.asm_writer.specs.Numbers.{number_bytes, number_width, numbers_bytes, numbers_width}
 use Rattle.asm_writer.specs.Padding.{padded, round_up}
 use Rattle.asm_writer.specs.Packing.{Packing, pushed, pushed_all, packed, filled}
 use Rattle.asm_writer.specs.Rows.{table_rows}
-use Rattle.asm_writer.specs.Sizes.{field_width, row_width, rows_width, items_size, headers_size, metadata_size, section_size, body_size, bodies_size, count_size, table_size, tables_size, file_size, fits}
+use Rattle.asm_writer.specs.Sizes.{field_width, row_width, rows_width, items_size, headers_size, metadata_size, section_size, body_size, bodies_size, count_size, table_size, tables_size, linked_size, linked_fits, file_size}
 use Rattle.asm_writer.specs.Stream.{stream_numbers, count_numbers, count_bytes, table_bytes, tables_stream}
 use Rattle.asm_writer.specs.Tables.{all_tables}
 use Rattle.asm_writer.proofs.MetadataLemmas.{length_root}
@@ -69,7 +71,7 @@ unfolding tables_stream tables_size
 length_stream l ms =
     let numbers = length_numbers (stream_numbers l) in
     let counts = sizes (count_bytes l) (count_size l) (λ (table : Table). length_numbers (count_numbers l table)) all_tables in
-    let rows = sizes (table_bytes l ms) (table_size l ms) (λ (table : Table). length_rows l (table_rows ms table)) all_tables in
+    let rows = sizes (table_bytes l ms) (table_size l ms) (λ (table : Table). length_rows l (table_rows ms l.externs table)) all_tables in
     length_padded 4 _ _ (omega arith) (both _ _ _ _ (both _ _ _ _ numbers counts) rows)
 
 -- Items that are packed.
@@ -122,28 +124,33 @@ length_joined size tables l = rw (length-append, length-append, length-append, l
 grouped : (r t s u g b : ℕ) → r + (t + s + u + g + b) ≡ r + t + s + u + g + b
 grouped r t s u g b = omega arith
 
-length_metadata : (plan : AsmPlan) → length (metadata (layout_of plan) plan.methods.items) ≡ metadata_size plan
+length_metadata : (all : Linked) → length (metadata (layout_of all) all.plan.methods.items) ≡ metadata_size all
 unfolding metadata metadata_size root_size strings_heap blob_heap
-length_metadata plan =
-    let l = layout_of plan in
-    let tables = tables_stream l plan.methods.items in
-    let stream = length_stream l plan.methods.items in
-    let strings = length_filled (string_items plan) in
-    let blobs = length_filled (blob_items plan.methods.items) in
+length_metadata all =
+    let l = layout_of all in
+    let tables = tables_stream l all.plan.methods.items in
+    let stream = length_stream l all.plan.methods.items in
+    let strings = length_filled (string_items all) in
+    let blobs = length_filled (blob_items all.plan.methods.items all.externs) in
     let front = length_root (length (root 0 (streams tables l))) tables l ∙ sym (length_root 0 tables l) in
     let parts = length_joined (length (root 0 (streams tables l))) tables l in
     both _ _ _ _ front (parts ∙ rw (stream, strings, blobs) refl) ∙ grouped _ _ _ _ _ _
 
 -- The whole.
-length_section : (plan : AsmPlan) → length (section_of plan) ≡ section_size plan
+length_section : (all : Linked) → length (section_of all) ≡ section_size all
 unfolding section section_size numbers_width
-length_section plan =
-    let cli = length_numbers (cli_header (bodies_rva + length (bodies plan.methods.items).bytes) (length (metadata (layout_of plan) plan.methods.items))) in
-    length_padded file_alignment _ _ (omega arith) (both _ _ _ _ (both _ _ _ _ cli (length_bodies plan.methods.items)) (length_metadata plan))
+length_section all =
+    let ms = all.plan.methods.items in
+    let cli = length_numbers (cli_header (bodies_rva + length (bodies ms).bytes) (length (metadata (layout_of all) ms))) in
+    length_padded file_alignment _ _ (omega arith) (both _ _ _ _ (both _ _ _ _ cli (length_bodies ms)) (length_metadata all))
+
+pub length_linked : (all : Linked) → length (linked_bytes all) ≡ linked_size all
+unfolding linked_bytes linked_size
+length_linked all = both _ _ _ _ (length_headers all.plan.wide (length (section_of all))) (length_section all)
 
 pub length_assembly : (plan : AsmPlan) → length (assembly_bytes plan) ≡ file_size plan
 unfolding assembly_bytes file_size
-length_assembly plan = both _ _ _ _ (length_headers plan.wide (length (section_of plan))) (length_section plan)
+length_assembly plan = length_linked (alone plan)
 
 -- More methods than a token can tell apart pass the size of a file.
 body_above : (m : MethodPlan) → 12 ≤ body_size m
@@ -158,18 +165,83 @@ few_bodies (m ∷ ms) =
     let rest = few_bodies ms in
     omega arith
 
-bodies_below : (plan : AsmPlan) → bodies_size plan.methods.items ≤ file_size plan
-unfolding file_size section_size
-bodies_below plan =
-    let above = round_up_above file_alignment (cli_header_size + bodies_size plan.methods.items + metadata_size plan) (omega arith) in
+bodies_below : (all : Linked) → bodies_size all.plan.methods.items + metadata_size all ≤ linked_size all
+unfolding linked_size section_size
+bodies_below all =
+    let above = round_up_above file_alignment (cli_header_size + bodies_size all.plan.methods.items + metadata_size all) (omega arith) in
     omega arith
 
 passes : (size limit : ℕ) (within : Bool) → limit < size → (nat_le size limit && within) ≡ false
 passes size limit within more = grind arith
 
-pub too_many : (plan : AsmPlan) → 2 ^ 24 ≤ length plan.methods.items → IsFalse (fits plan)
-unfolding fits
-too_many plan many =
-    let few = few_bodies plan.methods.items in
-    let below = bodies_below plan in
-    passes (file_size plan) MAX_FILE_BYTES (list_all is_within plan.methods.items) (omega arith)
+pub too_many : (all : Linked) → 2 ^ 24 ≤ length all.plan.methods.items → IsFalse (linked_fits all)
+unfolding linked_fits
+too_many all many =
+    let few = few_bodies all.plan.methods.items in
+    let below = bodies_below all in
+    passes (linked_size all) MAX_FILE_BYTES (list_all is_short_extern all.externs && list_all is_within all.plan.methods.items) (omega arith)
+
+-- So do more externs: each has four names, and each name a zero.
+ended_above : (name : List ℕ) → 1 ≤ length (zero_ended name)
+unfolding zero_ended
+ended_above name = let size = length-append name (0 ∷ []) in omega arith
+
+few_names : (externs : List Extern) → 4 * length externs ≤ items_size (flat_map extern_name_items externs)
+few_names [] = omega arith
+few_names (e ∷ externs) =
+    let a = ended_above e.assembly.items in
+    let n = ended_above e.namespace.items in
+    let c = ended_above e.class.items in
+    let m = ended_above e.name.items in
+    let rest = few_names externs in
+    let whole = sum_by-append length (extern_name_items e) (flat_map extern_name_items externs) in
+    let four : items_size (extern_name_items e) ≡ 0 + length (zero_ended e.assembly.items) + length (zero_ended e.namespace.items) + length (zero_ended e.class.items) + length (zero_ended e.name.items) = refl in
+    omega arith
+
+names_below : (all : Linked) → items_size (flat_map extern_name_items all.externs) ≤ items_size (string_items all)
+names_below all =
+    let front = map (name_item all.plan) cited_names ++ map method_name_item all.plan.methods.items in
+    let names = flat_map extern_name_items all.externs in
+    let own = own_name_items all.plan all.assembly in
+    let two = sum_by-append length front names in
+    let three = sum_by-append length (front ++ names) own in
+    omega arith
+
+strings_below : (all : Linked) → items_size (string_items all) + 108 ≤ metadata_size all
+unfolding metadata_size root_size
+strings_below all =
+    let root = length_root 0 (tables_stream (layout_of all) all.plan.methods.items) (layout_of all) in
+    let above = round_up_above 4 (items_size (string_items all)) (omega arith) in
+    omega arith
+
+pub externs_below : (all : Linked) → 4 * length all.externs + 108 ≤ linked_size all
+externs_below all =
+    let few = few_names all.externs in
+    let names = names_below all in
+    let strings = strings_below all in
+    let below = bodies_below all in
+    omega arith
+
+pub too_many_externs : (all : Linked) → 2 ^ 24 ≤ length all.externs → IsFalse (linked_fits all)
+unfolding linked_fits
+too_many_externs all many =
+    let below = externs_below all in
+    passes (linked_size all) MAX_FILE_BYTES (list_all is_short_extern all.externs && list_all is_within all.plan.methods.items) (omega arith)
+
+-- What passes a limit of its own does not fit.
+past_first : (size first second : Bool) → IsFalse first → IsFalse (size && (first && second))
+past_first true first second past = rw past refl
+past_first false first second past = refl
+
+past_second : (size first second : Bool) → IsFalse second → IsFalse (size && (first && second))
+past_second true true second past = past
+past_second true false second past = refl
+past_second false first second past = refl
+
+pub past_extern : (all : Linked) → IsFalse (list_all is_short_extern all.externs) → IsFalse (linked_fits all)
+unfolding linked_fits
+past_extern all past = past_first (nat_le (linked_size all) MAX_FILE_BYTES) (list_all is_short_extern all.externs) (list_all is_within all.plan.methods.items) past
+
+pub past_method : (all : Linked) → IsFalse (list_all is_within all.plan.methods.items) → IsFalse (linked_fits all)
+unfolding linked_fits
+past_method all past = past_second (nat_le (linked_size all) MAX_FILE_BYTES) (list_all is_short_extern all.externs) (list_all is_within all.plan.methods.items) past

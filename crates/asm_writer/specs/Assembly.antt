@@ -3,6 +3,7 @@ use Rattle.std.specs.Prelude.{ℕ, ◌+◌, List, ◌++◌, length}
 use Rattle.asm_writer.specs.declared.plan.AsmPlan.{AsmPlan}
 use Rattle.asm_writer.specs.Headers.{file_alignment, bodies_rva, cli_header, headers}
 use Rattle.asm_writer.specs.Layout.{layout_of}
+use Rattle.asm_writer.specs.Linked.{Linked, alone}
 use Rattle.asm_writer.specs.Metadata.{metadata}
 use Rattle.asm_writer.specs.Numbers.{numbers_bytes}
 use Rattle.asm_writer.specs.Padding.{padded}
@@ -13,12 +14,16 @@ section bodies metadata =
     padded file_alignment
     (numbers_bytes (cli_header (bodies_rva + length bodies) (length metadata)) ++ bodies ++ metadata)
 
--- The section of a plan.
-abbrev pub section_of : AsmPlan → List ℕ
-section_of plan =
-    let l = layout_of plan in
-    section l.bodies.bytes (metadata l plan.methods.items)
+-- The section of a plan with what it is linked with.
+abbrev pub section_of : Linked → List ℕ
+section_of all =
+    let l = layout_of all in
+    section l.bodies.bytes (metadata l all.plan.methods.items)
 
--- The file of a plan: the headers, and the section after them.
+-- The file of these: the headers, and the section after them.
+unfoldable pub linked_bytes : Linked → List ℕ
+linked_bytes all = headers all.plan.wide (length (section_of all)) ++ section_of all
+
+-- The file of a plan alone.
 unfoldable pub assembly_bytes : AsmPlan → List ℕ
-assembly_bytes plan = headers plan.wide (length (section_of plan)) ++ section_of plan
+assembly_bytes plan = linked_bytes (alone plan)

@@ -2,11 +2,12 @@
 use Rattle.std.specs.Prelude.{ℕ, ◌+◌, ◌*◌, List, [], ◌∷◌, ◌++◌, length, map, flat_map}
 use Rattle.asm_writer.specs.declared.blob.Blob.{Blob}
 use Rattle.asm_writer.specs.declared.blob.Blob.TheVariants as blobs
+use Rattle.asm_writer.specs.declared.plan.Extern.{Extern}
 use Rattle.asm_writer.specs.declared.plan.MethodPlan.{MethodPlan}
 use Rattle.asm_writer.specs.Packing.{Packing, packed, filled}
-use Rattle.asm_writer.specs.Signatures.{VOID, BOOLEAN, I4, STRING, SZARRAY, MVAR, blob, signature_blob, local_blob}
+use Rattle.asm_writer.specs.Signatures.{VOID, BOOLEAN, I4, STRING, SZARRAY, MVAR, blob, signature_blob, local_blob, extern_blob}
 
--- The blobs in the order of the heap. Those of the methods stand after them.
+-- The blobs in the order of the heap. After them stand those of the methods and those of the externs.
 abbrev pub cited_blobs : List Blob
 cited_blobs =
     blobs.Empty ∷ blobs.Condition ∷ blobs.ConditionAndMessage ∷ blobs.Nothing ∷ blobs.Result ∷ blobs.OldValue
@@ -46,6 +47,10 @@ signature_index method = length cited_blobs + 2 * method
 abbrev pub locals_index : ℕ → ℕ
 locals_index method = signature_index method + 1
 
+-- The same of the signature of the extern of this index, after those of so many methods.
+abbrev pub extern_signature_index : ℕ → ℕ → ℕ
+extern_signature_index methods index = signature_index methods + index
+
 abbrev pub blob_item : Blob → List ℕ
 blob_item cited = blob (blob_content cited)
 
@@ -53,8 +58,8 @@ blob_item cited = blob (blob_content cited)
 abbrev pub method_blob_items : MethodPlan → List (List ℕ)
 method_blob_items m = signature_blob m ∷ local_blob m.locals.items ∷ []
 
-abbrev pub blob_items : List MethodPlan → List (List ℕ)
-blob_items methods = map blob_item cited_blobs ++ flat_map method_blob_items methods
+abbrev pub blob_items : List MethodPlan → List Extern → List (List ℕ)
+blob_items methods externs = map blob_item cited_blobs ++ flat_map method_blob_items methods ++ map extern_blob externs
 
-unfoldable pub blob_heap : List MethodPlan → Packing
-blob_heap methods = filled (packed (blob_items methods))
+unfoldable pub blob_heap : List MethodPlan → List Extern → Packing
+blob_heap methods externs = filled (packed (blob_items methods externs))

@@ -2,6 +2,7 @@ pub mod Numbers
 pub mod Padding
 pub mod Packing
 pub mod Tables
+pub mod Linked
 pub mod Names
 pub mod Limits
 pub mod Signatures

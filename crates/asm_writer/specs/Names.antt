@@ -1,12 +1,18 @@
 -- The names in the heap `#Strings` (ECMA-335 II.24.2.3).
-use Rattle.std.specs.Prelude.{ℕ, ◌+◌, List, [], ◌∷◌, ◌++◌, length, map, codes}
+use Rattle.std.specs.Prelude.{ℕ, ◌+◌, ◌*◌, List, [], ◌∷◌, ◌++◌, length, map, flat_map, codes, if◌then◌else◌}
+use Rattle.std.specs.Str.{bytes_eq}
+use Rattle.asm_writer.specs.declared.name.ExternPart.{ExternPart}
+use Rattle.asm_writer.specs.declared.name.ExternPart.TheVariants as parts
 use Rattle.asm_writer.specs.declared.name.Name.{Name}
 use Rattle.asm_writer.specs.declared.name.Name.TheVariants as names
 use Rattle.asm_writer.specs.declared.plan.AsmPlan.{AsmPlan}
+use Rattle.asm_writer.specs.declared.plan.Extern.{Extern}
 use Rattle.asm_writer.specs.declared.plan.MethodPlan.{MethodPlan}
+use Rattle.asm_writer.specs.Linked.{Linked}
 use Rattle.asm_writer.specs.Packing.{Packing, packed, filled}
 
--- The names in the order of the heap. Those of the methods stand after them.
+-- The names in the order of the heap. After them stand those of the methods, those of the externs, and that of the
+-- assembly.
 abbrev pub cited_names : List Name
 cited_names =
     names.Empty ∷ names.Object ∷ names.System ∷ names.Int32 ∷ names.Boolean ∷ names.Contract ∷ names.Contracts
@@ -70,8 +76,37 @@ name_item plan name = zero_ended (name_text plan name)
 abbrev pub method_name_item : MethodPlan → List ℕ
 method_name_item m = zero_ended m.name.items
 
-abbrev pub string_items : AsmPlan → List (List ℕ)
-string_items plan = map (name_item plan) cited_names ++ map method_name_item plan.methods.items
+-- The four names of an extern, in the order of its parts.
+abbrev pub extern_name_items : Extern → List (List ℕ)
+extern_name_items e =
+    zero_ended e.assembly.items ∷ zero_ended e.namespace.items ∷ zero_ended e.class.items ∷ zero_ended e.name.items ∷ []
 
-unfoldable pub strings_heap : AsmPlan → Packing
-strings_heap plan = filled (packed (string_items plan))
+abbrev pub part_index : ExternPart → ℕ
+part_index parts.Assembly = 0
+part_index parts.Namespace = 1
+part_index parts.Class = 2
+part_index parts.Name = 3
+
+-- Which of the names of the heap a name of the extern of this index is, after those of so many methods.
+abbrev pub extern_name_index : ℕ → ℕ → ExternPart → ℕ
+extern_name_index methods index part = length cited_names + methods + 4 * index + part_index part
+
+-- The name of the assembly, where it is not that of the class.
+unfoldable pub own_name_items : AsmPlan → List ℕ → List (List ℕ)
+own_name_items plan assembly = if bytes_eq assembly plan.class.items then [] else zero_ended assembly ∷ []
+
+-- Which of the names of the heap it is.
+unfoldable pub own_name_index : Linked → ℕ
+own_name_index all =
+    if bytes_eq all.assembly all.plan.class.items then name_index names.Class
+    else extern_name_index (length all.plan.methods.items) (length all.externs) parts.Assembly
+
+abbrev pub string_items : Linked → List (List ℕ)
+string_items all =
+    map (name_item all.plan) cited_names
+    ++ map method_name_item all.plan.methods.items
+    ++ flat_map extern_name_items all.externs
+    ++ own_name_items all.plan all.assembly
+
+unfoldable pub strings_heap : Linked → Packing
+strings_heap all = filled (packed (string_items all))

@@ -1,7 +1,8 @@
 -- Signatures and their blobs (ECMA-335 II.23.2 and II.24.2.4).
-use Rattle.std.specs.Prelude.{ℕ, ◌+◌, ◌/◌, ◌%◌, List, [], ◌∷◌, ◌++◌, length, flat_map, nat_lt, if◌then◌else◌, Bool}
+use Rattle.std.specs.Prelude.{ℕ, ◌+◌, ◌/◌, ◌%◌, List, [], ◌∷◌, ◌++◌, length, flat_map, nat_lt, if◌then◌else◌, Bool, true}
 use Rattle.cil_model.specs.declared.place.Place.{Place}
 use Rattle.cil_model.specs.declared.place.Place.TheVariants as places
+use Rattle.asm_writer.specs.declared.plan.Extern.{Extern}
 use Rattle.asm_writer.specs.declared.plan.MethodPlan.{MethodPlan}
 
 -- A number below 4000 in the shortest of its compressed forms (II.23.2).
@@ -38,10 +39,17 @@ type_bytes places.Ints = SZARRAY ∷ I4 ∷ []
 abbrev pub convention : Bool → ℕ
 convention is_static = if is_static then 0x00 else 0x20
 
--- MethodDefSig (II.23.2.1).
+-- MethodDefSig (II.23.2.1) and MethodRefSig (II.23.2.2): whether the method is static, what it returns, and its
+-- arguments.
+abbrev pub signature_of : Bool → Place → List Place → List ℕ
+signature_of is_static gives args =
+    convention is_static ∷ compressed (length args) ++ type_bytes gives ++ flat_map type_bytes args
+
 unfoldable pub signature : MethodPlan → List ℕ
-signature m =
-    convention m.is_static ∷ compressed (length m.args.items) ++ type_bytes m.result ++ flat_map type_bytes m.args.items
+signature m = signature_of m.is_static m.result m.args.items
+
+unfoldable pub extern_signature : Extern → List ℕ
+extern_signature e = signature_of true e.result e.args.items
 
 -- LocalVarSig (II.23.2.6).
 unfoldable pub local_signature : List Place → List ℕ
@@ -53,6 +61,9 @@ blob bytes = compressed (length bytes) ++ bytes
 
 unfoldable pub signature_blob : MethodPlan → List ℕ
 signature_blob m = blob (signature m)
+
+unfoldable pub extern_blob : Extern → List ℕ
+extern_blob e = blob (extern_signature e)
 
 -- The blob of a method's locals, where it has any.
 unfoldable pub local_blob : List Place → List ℕ

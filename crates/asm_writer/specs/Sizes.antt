@@ -11,7 +11,8 @@ use Rattle.asm_writer.specs.Blobs.{blob_items}
 use Rattle.asm_writer.specs.Bodies.{body_header}
 use Rattle.asm_writer.specs.Headers.{file_alignment, dos_header, file_header, optional_header, section_header, cli_header_size}
 use Rattle.asm_writer.specs.Layout.{layout_of, field_number}
-use Rattle.asm_writer.specs.Limits.{is_within}
+use Rattle.asm_writer.specs.Limits.{is_within, is_short_extern}
+use Rattle.asm_writer.specs.Linked.{Linked, alone}
 use Rattle.asm_writer.specs.Metadata.{user_strings, guids, streams, root_size}
 use Rattle.asm_writer.specs.Names.{string_items}
 use Rattle.asm_writer.specs.Numbers.{number_width, numbers_width}
@@ -45,7 +46,7 @@ abbrev pub count_size : Layout → Table → ℕ
 count_size l table = numbers_width (count_numbers l table)
 
 abbrev pub table_size : Layout → List MethodPlan → Table → ℕ
-table_size l methods table = rows_width l (table_rows methods table)
+table_size l methods table = rows_width l (table_rows methods l.externs table)
 
 -- The stream `#~`.
 unfoldable pub tables_size : Layout → List MethodPlan → ℕ
@@ -55,18 +56,18 @@ tables_size l methods =
     + sum_by (count_size l) all_tables
     + sum_by (table_size l methods) all_tables)
 
-unfoldable pub metadata_size : AsmPlan → ℕ
-metadata_size plan =
-    let l = layout_of plan in
-    root_size (streams (tables_stream l plan.methods.items) l)
-    + tables_size l plan.methods.items
-    + round_up 4 (items_size (string_items plan))
+unfoldable pub metadata_size : Linked → ℕ
+metadata_size all =
+    let l = layout_of all in
+    root_size (streams (tables_stream l all.plan.methods.items) l)
+    + tables_size l all.plan.methods.items
+    + round_up 4 (items_size (string_items all))
     + length user_strings
     + length guids
-    + round_up 4 (items_size (blob_items plan.methods.items))
+    + round_up 4 (items_size (blob_items all.plan.methods.items all.externs))
 
-unfoldable pub section_size : AsmPlan → ℕ
-section_size plan = round_up file_alignment (cli_header_size + bodies_size plan.methods.items + metadata_size plan)
+unfoldable pub section_size : Linked → ℕ
+section_size all = round_up file_alignment (cli_header_size + bodies_size all.plan.methods.items + metadata_size all)
 
 unfoldable pub headers_size : Bool → ℕ
 headers_size wide =
@@ -76,9 +77,18 @@ headers_size wide =
     + numbers_width (optional_header wide)
     + length (section_header 0))
 
-unfoldable pub file_size : AsmPlan → ℕ
-file_size plan = headers_size plan.wide + section_size plan
+unfoldable pub linked_size : Linked → ℕ
+linked_size all = headers_size all.plan.wide + section_size all
 
--- The file and each method keep their limits.
+-- The file, each extern and each method keep their limits.
+unfoldable pub linked_fits : Linked → Bool
+linked_fits all =
+    nat_le (linked_size all) MAX_FILE_BYTES
+    && (list_all is_short_extern all.externs && list_all is_within all.plan.methods.items)
+
+-- The same of a plan alone.
+unfoldable pub file_size : AsmPlan → ℕ
+file_size plan = linked_size (alone plan)
+
 unfoldable pub fits : AsmPlan → Bool
-fits plan = nat_le (file_size plan) MAX_FILE_BYTES && list_all is_within plan.methods.items
+fits plan = linked_fits (alone plan)

@@ -1,12 +1,13 @@
 //! The blobs in the heap `#Blob` (ECMA-335 II.24.2.4).
 
 ghost use Rattle.std.specs.Prelude.{◌≡◌, ◌<◌, ◌≤◌, map, flat_map, length, slice_get, Some, All, IsTrue, OnOk, IfOk};
-ghost use Rattle.asm_writer.specs.Blobs.{cited_blobs, blob_content, blob_index, signature_index, locals_index, blob_item, method_blob_items, blob_heap};
-ghost use Rattle.asm_writer.specs.Limits.{is_within};
+ghost use Rattle.asm_writer.specs.Blobs.{cited_blobs, blob_content, blob_index, signature_index, locals_index, extern_signature_index, blob_item, method_blob_items, blob_heap};
+ghost use Rattle.asm_writer.specs.Limits.{is_within, is_short_extern};
 ghost use Rattle.asm_writer.specs.Packing.{pushed, pushed_all};
+ghost use Rattle.asm_writer.specs.Signatures.{extern_blob};
 
 use crate::packed::Packed;
-use crate::plan::MethodPlan;
+use crate::plan::{Extern, MethodPlan};
 use crate::signature::{
     BOOLEAN, I4, MVAR, STRING, SZARRAY, VOID, append_compressed, append_local_blob,
     append_signature_blob,
@@ -95,6 +96,13 @@ pub fn locals_index(method: u32) -> usize
     BLOBS.len() + 2 * method as usize + 1
 }
 
+/// The index of the blob of the signature of the extern of this index, after so many methods.
+pub fn extern_signature_index(methods: u32, index: u32) -> usize
+    ensures { result ≡ extern_signature_index methods index }
+{
+    signature_index(methods) + index as usize
+}
+
 /// Appends a blob.
 #[tactic(auto, unfolding(crate::specs::Signatures::blob))]
 fn push_blob(heap: &mut Packed, blob: Blob) -> Result<(), AllocError>
@@ -118,13 +126,18 @@ fn push_blobs(heap: &mut Packed, blobs: &[Blob]) -> Result<(), AllocError>
 }
 
 /// Appends the blobs of a method.
-#[tactic(auto, unfolding(crate::specs::Limits::is_within, crate::specs::Packing::pushed_all))]
+#[tactic(auto, unfolding(crate::specs::Limits::is_within, crate::specs::Packing::pushed_all, crate::specs::Signatures::signature, crate::specs::Signatures::signature_blob))]
 fn push_method(heap: &mut Packed, method: &MethodPlan) -> Result<(), AllocError>
     requires { IsTrue (is_within method.now) }
     ensures { OnOk result (heap.new ≡ pushed_all heap.old (method_blob_items method.now)) }
 {
     heap.begin()?;
-    append_signature_blob(&mut heap.bytes, method)?;
+    append_signature_blob(
+        &mut heap.bytes,
+        method.is_static,
+        method.result,
+        &method.args,
+    )?;
     heap.begin()?;
     append_local_blob(&mut heap.bytes, &method.locals)
 }
@@ -142,14 +155,42 @@ fn push_methods(heap: &mut Packed, methods: &[MethodPlan]) -> Result<(), AllocEr
     Ok(())
 }
 
+/// Appends the blob of an extern.
+#[tactic(auto, unfolding(crate::specs::Limits::is_short_extern, crate::specs::Signatures::extern_signature, crate::specs::Signatures::extern_blob))]
+fn push_extern(heap: &mut Packed, method: &Extern) -> Result<(), AllocError>
+    requires { IsTrue (is_short_extern method.now) }
+    ensures { OnOk result (heap.new ≡ pushed heap.old (extern_blob method.now)) }
+{
+    heap.begin()?;
+    append_signature_blob(&mut heap.bytes, true, method.result, &method.args)
+}
+
+/// Appends the blobs of externs.
+#[tactic(auto, unfolding(crate::specs::Packing::pushed_all))]
+fn push_externs(heap: &mut Packed, externs: &[Extern]) -> Result<(), AllocError>
+    requires { All (λ e. IsTrue (is_short_extern e)) externs.now }
+    ensures { OnOk result (heap.new ≡ pushed_all heap.old (map extern_blob externs.now)) }
+{
+    for method in externs {
+        push_extern(heap, method)?;
+    }
+    Ok(())
+}
+
 /// The heap `#Blob`.
-pub fn blob_heap(alloc: Global, methods: &[MethodPlan]) -> Result<Packed, AllocError>
-    requires { All (λ m. IsTrue (is_within m)) methods.now }
-    ensures { IfOk result (λ heap. heap ≡ blob_heap methods.now) }
+pub fn blob_heap(
+    alloc: Global,
+    methods: &[MethodPlan],
+    externs: &[Extern],
+) -> Result<Packed, AllocError>
+    requires methods { All (λ m. IsTrue (is_within m)) methods.now }
+    requires externs { All (λ e. IsTrue (is_short_extern e)) externs.now }
+    ensures { IfOk result (λ heap. heap ≡ blob_heap methods.now externs.now) }
 {
     let mut heap = Packed::new(alloc);
     push_blobs(&mut heap, &BLOBS)?;
     push_methods(&mut heap, methods)?;
+    push_externs(&mut heap, externs)?;
     heap.fill()?;
     Ok(heap)
 }

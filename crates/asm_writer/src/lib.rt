@@ -1,5 +1,5 @@
 //! Writes small .NET assemblies: one class with static or instance methods over int32, bool and arrays
-//! of them, and references to the contract calls (ECMA-335 II.22 to II.25).
+//! of them, and references to the contract calls and to methods of other assemblies (ECMA-335 II.22 to II.25).
 #![tactic(auto)]
 
 mod blob;
@@ -22,5 +22,5 @@ mod template;
 mod writer;
 
 pub use generator::generate;
-pub use plan::{AsmPlan, MethodPlan, WriteRefusal};
-pub use writer::write_assembly;
+pub use plan::{AsmPlan, Extern, MethodPlan, WriteRefusal};
+pub use writer::{write_assembly, write_linked};

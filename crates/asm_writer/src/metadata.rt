@@ -82,7 +82,8 @@ pub fn metadata(
     layout: &Layout,
     methods: &[MethodPlan],
 ) -> Result<Vec<u8>, AllocError>
-    requires { length methods.now < 2 ^ 24 }
+    requires few { length methods.now < 2 ^ 24 }
+    requires few_externs { layout.now.externs < 2 ^ 24 }
     ensures { IfOk result (λ bytes. bytes.items ≡ metadata layout.now methods.now) }
 {
     let tables = tables_stream(alloc, layout, methods)?;

@@ -1,11 +1,12 @@
 //! The names in the heap `#Strings` (ECMA-335 II.24.2.3).
 
-ghost use Rattle.std.specs.Prelude.{◌≡◌, ◌++◌, ◌<◌, map, slice_get, Some, OnOk, IfOk};
-ghost use Rattle.asm_writer.specs.Names.{cited_names, name_index, method_name_index, name_text, zero_ended, name_item, method_name_item, strings_heap};
+ghost use Rattle.std.specs.Prelude.{◌≡◌, ◌++◌, ◌<◌, ◌^◌, length, map, flat_map, slice_get, Some, OnOk, IfOk};
+ghost use Rattle.asm_writer.specs.Linked.{linked};
+ghost use Rattle.asm_writer.specs.Names.{cited_names, name_index, method_name_index, part_index, extern_name_index, name_text, zero_ended, name_item, method_name_item, extern_name_items, own_name_items, own_name_index, strings_heap};
 ghost use Rattle.asm_writer.specs.Packing.{pushed, pushed_all};
 
 use crate::packed::Packed;
-use crate::plan::{AsmPlan, MethodPlan};
+use crate::plan::{AsmPlan, Extern, MethodPlan};
 use std::alloc::{AllocError, Global};
 
 /// A name that a row cites, but those of the methods.
@@ -30,12 +31,31 @@ pub enum Name {
     Result,
     OldValue,
     Mscorlib,
-    /// The name of the class that is written, and of its assembly.
+    /// The name of the class that is written.
     Class,
     /// Its namespace.
     Namespace,
     /// The name of the file.
     File,
+}
+
+/// Which of the names of an extern.
+#[derive(Clone, Copy)]
+pub enum ExternPart {
+    Assembly,
+    Namespace,
+    Class,
+    Name,
+}
+
+impl ExternPart {
+    /// Which of the names of an extern it is, in the order of the heap.
+    fn index(self) -> usize
+        ensures is { result ≡ part_index self }
+        ensures bound { result < 4 }
+    {
+        self as usize
+    }
 }
 
 /// The names, in the order of the heap.
@@ -77,6 +97,28 @@ pub fn method_name_index(method: u32) -> usize
     ensures { result ≡ method_name_index method }
 {
     NAMES.len() + method as usize
+}
+
+/// The index of a name of the extern of this index, after so many methods.
+pub fn extern_name_index(methods: u32, index: u32, part: ExternPart) -> usize
+    ensures { result ≡ extern_name_index methods index part }
+{
+    NAMES.len() + methods as usize + 4 * index as usize + part.index()
+}
+
+/// The index of the name of the assembly. It is that of the class, where the two are the same.
+#[tactic(auto, unfolding(crate::specs::Names::own_name_index))]
+pub fn own_name_index(plan: &AsmPlan, assembly: &[u8], externs: &[Extern]) -> usize
+    requires methods { length plan.now.methods.items < 2 ^ 24 }
+    requires externs { length externs.now < 2 ^ 24 }
+    ensures { result ≡ own_name_index (linked plan.now assembly.now externs.now) }
+{
+    if assembly == plan.class.as_slice() {
+        Name::Class.index()
+    } else {
+        let methods = plan.methods.len() as u32;
+        extern_name_index(methods, externs.len() as u32, ExternPart::Assembly)
+    }
 }
 
 /// Appends the text of a name.
@@ -132,15 +174,22 @@ fn push_names(heap: &mut Packed, plan: &AsmPlan, names: &[Name]) -> Result<(), A
     Ok(())
 }
 
-/// Appends the name of a method and its zero.
+/// Appends a text and its zero.
 #[tactic(auto, unfolding(crate::specs::Names::zero_ended))]
+fn push_text(heap: &mut Packed, text: &[u8]) -> Result<(), AllocError>
+    ensures { OnOk result (heap.new ≡ pushed heap.old (zero_ended text.now)) }
+{
+    heap.begin()?;
+    heap.bytes.extend_from_slice(text)?;
+    heap.bytes.push(0)?;
+    Ok(())
+}
+
+/// Appends the name of a method and its zero.
 fn push_method_name(heap: &mut Packed, method: &MethodPlan) -> Result<(), AllocError>
     ensures { OnOk result (heap.new ≡ pushed heap.old (method_name_item method.now)) }
 {
-    heap.begin()?;
-    heap.bytes.extend_from_slice(&method.name)?;
-    heap.bytes.push(0)?;
-    Ok(())
+    push_text(heap, &method.name)
 }
 
 /// Appends the names of the methods, each with its zero.
@@ -155,13 +204,56 @@ fn push_method_names(heap: &mut Packed, plan: &AsmPlan) -> Result<(), AllocError
     Ok(())
 }
 
+/// Appends the names of an extern, each with its zero.
+#[tactic(auto, unfolding(crate::specs::Packing::pushed_all))]
+fn push_extern(heap: &mut Packed, method: &Extern) -> Result<(), AllocError>
+    ensures { OnOk result (heap.new ≡ pushed_all heap.old (extern_name_items method.now)) }
+{
+    push_text(heap, &method.assembly)?;
+    push_text(heap, &method.namespace)?;
+    push_text(heap, &method.class)?;
+    push_text(heap, &method.name)
+}
+
+/// Appends the names of externs, each with its zero.
+#[tactic(auto, unfolding(crate::specs::Packing::pushed_all))]
+fn push_externs(heap: &mut Packed, externs: &[Extern]) -> Result<(), AllocError>
+    ensures { OnOk result
+        (heap.new ≡ pushed_all heap.old (flat_map extern_name_items externs.now)) }
+{
+    for method in externs {
+        push_extern(heap, method)?;
+    }
+    Ok(())
+}
+
+/// Appends the name of the assembly and its zero, where it is not that of the class.
+#[tactic(auto, unfolding(crate::specs::Packing::pushed_all, crate::specs::Names::own_name_items))]
+fn push_own_name(heap: &mut Packed, plan: &AsmPlan, assembly: &[u8]) -> Result<(), AllocError>
+    ensures { OnOk result
+        (heap.new ≡ pushed_all heap.old (own_name_items plan.now assembly.now)) }
+{
+    if assembly == plan.class.as_slice() {
+        return Ok(());
+    }
+    push_text(heap, assembly)
+}
+
 /// The heap `#Strings`.
-pub fn strings_heap(alloc: Global, plan: &AsmPlan) -> Result<Packed, AllocError>
-    ensures { IfOk result (λ heap. heap ≡ strings_heap plan.now) }
+pub fn strings_heap(
+    alloc: Global,
+    plan: &AsmPlan,
+    assembly: &[u8],
+    externs: &[Extern],
+) -> Result<Packed, AllocError>
+    ensures { IfOk result
+        (λ heap. heap ≡ strings_heap (linked plan.now assembly.now externs.now)) }
 {
     let mut heap = Packed::new(alloc);
     push_names(&mut heap, plan, &NAMES)?;
     push_method_names(&mut heap, plan)?;
+    push_externs(&mut heap, externs)?;
+    push_own_name(&mut heap, plan, assembly)?;
     heap.fill()?;
     Ok(heap)
 }

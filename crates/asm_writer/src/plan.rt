@@ -38,6 +38,24 @@ pub struct MethodPlan {
     pub code: Vec<u8>,
 }
 
+/// A static method of another assembly, which code may call. That it reads back, none of its names has a zero byte, and
+/// none of its arguments is `Void`.
+#[derive(Drop)]
+pub struct Extern {
+    /// The name of the assembly, in UTF-8, as are the other names.
+    pub assembly: Vec<u8>,
+    /// The namespace of the class. It may be empty.
+    pub namespace: Vec<u8>,
+    /// The name of the class.
+    pub class: Vec<u8>,
+    /// The name of the method.
+    pub name: Vec<u8>,
+    /// What it returns.
+    pub result: Place,
+    /// Its arguments.
+    pub args: Vec<Place>,
+}
+
 /// Why nothing was written.
 #[derive(Clone, Copy, Debug, PartialEq, Eq)]
 pub enum WriteRefusal {

@@ -1,16 +1,17 @@
 //! The rows of the tables (ECMA-335 II.22).
 
-ghost use Rattle.std.specs.Prelude.{◌≡◌, length};
-ghost use Rattle.asm_writer.specs.Rows.{fixed_rows, method_row, locals_fields};
+ghost use Rattle.std.specs.Prelude.{◌≡◌, ◌<◌, ◌^◌, length};
+ghost use Rattle.asm_writer.specs.Rows.{fixed_rows, method_row, locals_fields, extern_assembly_row, extern_type_row, extern_member_row};
 
 use crate::blob::Blob;
 use crate::blob::Blob::{Condition, ConditionAndMessage, Nothing};
 use crate::field::Field;
 use crate::field::Field::{
-    Blobs, Coded, Guid, MethodBody, MethodLocals, MethodName, MethodSignature, Plain, Row, Strings,
+    Blobs, Coded, ExternName, ExternSignature, Guid, MethodBody, MethodLocals, MethodName,
+    MethodSignature, OwnName, Plain, Row, Strings,
 };
-use crate::name::Name;
 use crate::name::Name::{Assert, Assume, EndContractBlock, Ensures, Requires};
+use crate::name::{ExternPart, Name};
 use crate::number::Number::{Four, Two};
 use crate::plan::MethodPlan;
 use crate::table::CodedIndex::{MemberRefParent, MethodDefOrRef, ResolutionScope, TypeDefOrRef};
@@ -83,7 +84,7 @@ pub const ASSEMBLIES: [[Field; 9]; 1] = [[
     Plain(Two(0)),
     Plain(Four(0)),
     Blobs(Blob::Empty),
-    Strings(Name::Class),
+    OwnName,
     Strings(Name::Empty),
 ]];
 
@@ -117,7 +118,7 @@ pub const METHOD_SPECS: [[Field; 2]; 8] = [
     [OLD_VALUE, Blobs(Blob::OfInts)],
 ];
 
-/// Returns how many rows a table has, but for those of MethodDef and StandAloneSig.
+/// Returns how many rows a table has, but for those of methods and externs.
 pub fn fixed_count(table: Table) -> usize
     ensures { result ≡ length (fixed_rows table) }
 {
@@ -153,4 +154,53 @@ pub fn locals_row(index: u32) -> [Field; 1]
     ensures { result ≡ locals_fields index }
 {
     [MethodLocals(index)]
+}
+
+/// AssemblyRef: the row of the assembly of the extern of this index.
+pub fn extern_assembly_row(index: u32) -> [Field; 9]
+    ensures { result ≡ extern_assembly_row index }
+{
+    [
+        Plain(Two(0)),
+        Plain(Two(0)),
+        Plain(Two(0)),
+        Plain(Two(0)),
+        Plain(Four(0)),
+        Blobs(Blob::Empty),
+        ExternName(index, ExternPart::Assembly),
+        Strings(Name::Empty),
+        Blobs(Blob::Empty),
+    ]
+}
+
+/// TypeRef: the row of its class.
+pub fn extern_type_row(index: u32) -> [Field; 3]
+    requires { index < 2 ^ 24 }
+    ensures { result ≡ extern_type_row index }
+{
+    [
+        Coded(
+            ResolutionScope,
+            Table::AssemblyRef,
+            index + (ASSEMBLY_REFS.len() as u32 + 1),
+        ),
+        ExternName(index, ExternPart::Class),
+        ExternName(index, ExternPart::Namespace),
+    ]
+}
+
+/// MemberRef: its row.
+pub fn extern_member_row(index: u32) -> [Field; 3]
+    requires { index < 2 ^ 24 }
+    ensures { result ≡ extern_member_row index }
+{
+    [
+        Coded(
+            MemberRefParent,
+            Table::TypeRef,
+            index + (TYPE_REFS.len() as u32 + 1),
+        ),
+        ExternName(index, ExternPart::Name),
+        ExternSignature(index),
+    ]
 }

@@ -1,10 +1,9 @@
 //! The signatures of methods and locals (ECMA-335 II.23.2), and their blobs (II.24.2.4).
 
-ghost use Rattle.std.specs.Prelude.{◌≡◌, ◌+◌, ◌*◌, ◌<◌, ◌≤◌, ◌++◌, length, flat_map, OnOk, IsTrue};
+ghost use Rattle.std.specs.Prelude.{◌≡◌, ◌+◌, ◌*◌, ◌<◌, ◌≤◌, ◌++◌, length, flat_map, OnOk, true};
 ghost use Rattle.cil_model.specs.Limits.{MAX_VARIABLES};
-ghost use Rattle.asm_writer.specs.Signatures.{compressed, blob, type_bytes, signature, local_signature, signature_blob, local_blob};
+ghost use Rattle.asm_writer.specs.Signatures.{compressed, blob, type_bytes, signature_of, local_signature, local_blob};
 
-use crate::plan::MethodPlan;
 use cil_model::Place;
 use std::alloc::AllocError;
 
@@ -82,28 +81,33 @@ fn append_types(out: &mut Vec<u8>, places: &[Place]) -> Result<(), AllocError>
     Ok(())
 }
 
-/// Returns how many bytes the signature of a method has.
-#[tactic(auto, unfolding(crate::specs::Signatures::signature))]
-fn signature_size(method: &MethodPlan) -> usize
-    requires { length method.now.args.items ≤ MAX_VARIABLES }
-    ensures is { result ≡ length (signature method.now) }
+/// Returns how many bytes the signature of a method has that returns this and has these arguments, whether it is static
+/// or not.
+fn signature_size(gives: Place, args: &[Place]) -> usize
+    requires { length args.now ≤ MAX_VARIABLES }
+    ensures is { result ≡ length (signature_of true gives args.now) }
     ensures bound { result ≤ 517 }
 {
-    let result = type_bytes(method.result).len();
-    1 + compressed_size(method.args.len()) + result + types_size(&method.args)
+    1 + compressed_size(args.len()) + type_bytes(gives).len() + types_size(args)
 }
 
-/// Appends the blob of the signature of a method.
-#[tactic(auto, unfolding(crate::specs::Signatures::signature, crate::specs::Signatures::signature_blob, crate::specs::Signatures::blob))]
-pub fn append_signature_blob(out: &mut Vec<u8>, method: &MethodPlan) -> Result<(), AllocError>
-    requires { length method.now.args.items ≤ MAX_VARIABLES }
-    ensures { OnOk result (out.new.items ≡ out.old.items ++ signature_blob method.now) }
+/// Appends the blob of the signature of a method that returns this and has these arguments.
+#[tactic(auto, unfolding(crate::specs::Signatures::blob))]
+pub fn append_signature_blob(
+    out: &mut Vec<u8>,
+    is_static: bool,
+    gives: Place,
+    args: &[Place],
+) -> Result<(), AllocError>
+    requires { length args.now ≤ MAX_VARIABLES }
+    ensures { OnOk result
+        (out.new.items ≡ out.old.items ++ blob (signature_of is_static gives args.now)) }
 {
-    append_compressed(out, signature_size(method))?;
-    out.push(if method.is_static { 0x00 } else { 0x20 })?;
-    append_compressed(out, method.args.len())?;
-    out.extend_from_slice(type_bytes(method.result))?;
-    append_types(out, &method.args)
+    append_compressed(out, signature_size(gives, args))?;
+    out.push(if is_static { 0x00 } else { 0x20 })?;
+    append_compressed(out, args.len())?;
+    out.extend_from_slice(type_bytes(gives))?;
+    append_types(out, args)
 }
 
 /// Appends the blob of local variables, where there are any.

@@ -3,7 +3,7 @@
 ghost use Rattle.std.specs.Prelude.{◌≡◌, ◌++◌, ◌<◌, ◌≤◌, ◌^◌, length, flat_map, sum_by, OnOk, IfOk};
 ghost use Rattle.asm_writer.specs.Each.{each_from};
 ghost use Rattle.asm_writer.specs.Layout.{rows_bytes};
-ghost use Rattle.asm_writer.specs.Rows.{rows_of_method};
+ghost use Rattle.asm_writer.specs.Rows.{rows_of_method, rows_of_extern, extern_rows};
 ghost use Rattle.asm_writer.specs.Stream.{heap_sizes, valid_bit, valid, count_bytes, table_bytes, tables_stream};
 
 use crate::field::Field;
@@ -14,7 +14,7 @@ use crate::padding::pad;
 use crate::plan::MethodPlan;
 use crate::rows::{
     ASSEMBLIES, ASSEMBLY_REFS, MEMBER_REFS, METHOD_SPECS, MODULES, TYPE_DEFS, TYPE_REFS,
-    locals_row, method_row,
+    extern_assembly_row, extern_member_row, extern_type_row, locals_row, method_row,
 };
 use crate::table::{TABLES, Table};
 use std::alloc::{AllocError, Global};
@@ -74,6 +74,58 @@ fn append_rows_of_methods(
     Ok(())
 }
 
+/// Appends the rows that a table has for the extern of this index.
+#[tactic(auto, unfolding(crate::specs::Layout::rows_bytes))]
+fn append_rows_of_extern(
+    out: &mut Vec<u8>,
+    layout: &Layout,
+    table: Table,
+    index: u32,
+) -> Result<(), AllocError>
+    requires { index < 2 ^ 24 }
+    ensures { OnOk result
+        (out.new.items ≡ out.old.items ++ rows_bytes layout.now (rows_of_extern table index)) }
+{
+    match table {
+        Table::AssemblyRef => append_rows(out, layout, &[extern_assembly_row(index)]),
+        Table::TypeRef => append_rows(out, layout, &[extern_type_row(index)]),
+        Table::MemberRef => append_rows(out, layout, &[extern_member_row(index)]),
+        _ => Ok(()),
+    }
+}
+
+/// Appends the rows that a table has for the externs.
+fn append_rows_of_externs(
+    out: &mut Vec<u8>,
+    layout: &Layout,
+    table: Table,
+) -> Result<(), AllocError>
+    requires { layout.now.externs < 2 ^ 24 }
+    ensures { OnOk result (out.new.items ≡
+        out.old.items ++ rows_bytes layout.now (extern_rows table layout.now.externs)) }
+{
+    for index in 0..layout.externs() {
+        append_rows_of_extern(out, layout, table, index)?;
+    }
+    Ok(())
+}
+
+/// Appends rows, and those that their table has for the externs.
+#[tactic(auto, using(crate::proofs::RowLemmas::rows_both))]
+fn append_rows_with_externs<const N: usize>(
+    out: &mut Vec<u8>,
+    layout: &Layout,
+    rows: &[[Field; N]],
+    table: Table,
+) -> Result<(), AllocError>
+    requires { layout.now.externs < 2 ^ 24 }
+    ensures { OnOk result (out.new.items ≡
+        out.old.items ++ rows_bytes layout.now (rows.now ++ extern_rows table layout.now.externs)) }
+{
+    append_rows(out, layout, rows)?;
+    append_rows_of_externs(out, layout, table)
+}
+
 /// Appends the rows of a table.
 #[tactic(auto, unfolding(crate::specs::Layout::rows_bytes))]
 fn append_table(
@@ -82,17 +134,18 @@ fn append_table(
     methods: &[MethodPlan],
     table: Table,
 ) -> Result<(), AllocError>
-    requires { length methods.now < 2 ^ 24 }
+    requires few { length methods.now < 2 ^ 24 }
+    requires few_externs { layout.now.externs < 2 ^ 24 }
     ensures { OnOk result
         (out.new.items ≡ out.old.items ++ table_bytes layout.now methods.now table) }
 {
     match table {
         Table::Module => append_rows(out, layout, &MODULES),
-        Table::TypeRef => append_rows(out, layout, &TYPE_REFS),
+        Table::TypeRef => append_rows_with_externs(out, layout, &TYPE_REFS, table),
         Table::TypeDef => append_rows(out, layout, &TYPE_DEFS),
-        Table::MemberRef => append_rows(out, layout, &MEMBER_REFS),
+        Table::MemberRef => append_rows_with_externs(out, layout, &MEMBER_REFS, table),
         Table::Assembly => append_rows(out, layout, &ASSEMBLIES),
-        Table::AssemblyRef => append_rows(out, layout, &ASSEMBLY_REFS),
+        Table::AssemblyRef => append_rows_with_externs(out, layout, &ASSEMBLY_REFS, table),
         Table::MethodSpec => append_rows(out, layout, &METHOD_SPECS),
         Table::MethodDef | Table::StandAloneSig => {
             append_rows_of_methods(out, layout, table, methods)
@@ -108,7 +161,8 @@ fn append_tables(
     methods: &[MethodPlan],
     tables: &[Table],
 ) -> Result<(), AllocError>
-    requires { length methods.now < 2 ^ 24 }
+    requires few { length methods.now < 2 ^ 24 }
+    requires few_externs { layout.now.externs < 2 ^ 24 }
     ensures { OnOk result
         (out.new.items ≡
         out.old.items ++ flat_map (table_bytes layout.now methods.now) tables.now) }
@@ -182,7 +236,8 @@ pub fn tables_stream(
     layout: &Layout,
     methods: &[MethodPlan],
 ) -> Result<Vec<u8>, AllocError>
-    requires { length methods.now < 2 ^ 24 }
+    requires few { length methods.now < 2 ^ 24 }
+    requires few_externs { layout.now.externs < 2 ^ 24 }
     ensures { IfOk result (λ stream. stream.items ≡ tables_stream layout.now methods.now) }
 {
     let mut out = Vec::new(alloc);

@@ -13,6 +13,14 @@ pub fn two_parts<'a>(alloc: Global, field: Field<'a>) -> Result<(&'a str, &'a st
     }
 }
 
+/// A name and what follows its blank, which is nothing where no blank follows.
+pub fn name_and_rest<'a>(field: Field<'a>) -> (&'a str, &'a str) {
+    field
+        .argument
+        .split_once(' ')
+        .unwrap_or((field.argument, ""))
+}
+
 /// The bytes of a text of hexadecimal digits. Those in brackets stand after their number, which has four bytes.
 pub fn bytes_of(alloc: Global, line: u64, text: &str) -> Result<Vec<u8>, Stop> {
     let Some((before, rest)) = text.split_once('[') else {
@@ -52,6 +60,13 @@ pub fn text_of(alloc: Global, line: u64, text: &str) -> Result<Vec<u8>, Stop> {
         Some(bytes) => Ok(bytes),
         None => Err(stop_at(alloc, line, "a backslash without two hexadecimal digits")),
     }
+}
+
+/// Appends the bytes of a text, and a line feed.
+pub fn append_line(alloc: Global, bytes: &mut Vec<u8>, line: u64, text: &str) -> Result<(), Stop> {
+    bytes.extend_from_slice(&text_of(alloc, line, text)?)?;
+    bytes.push(b'\n')?;
+    Ok(())
 }
 
 /// A name or a word of the program.

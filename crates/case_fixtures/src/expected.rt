@@ -1,6 +1,8 @@
 //! What the program must answer.
 
-use crate::arguments::{bytes_of, number_of, small_number_of, text_of, two_parts, word_of};
+use crate::arguments::{
+    append_line, bytes_of, name_and_rest, number_of, small_number_of, text_of, two_parts, word_of,
+};
 use crate::wrong::{Stop, stop_at};
 use case_reader::Field;
 use cc_base::NamedFile;
@@ -47,8 +49,8 @@ impl Expected {
         let line = field.line;
         match field.keyword {
             "status" => self.take_status(alloc, field)?,
-            "out" => append_line(alloc, &mut self.out, field)?,
-            "err" => append_line(alloc, &mut self.err, field)?,
+            "out" => append_line(alloc, &mut self.out, line, field.argument)?,
+            "err" => append_line(alloc, &mut self.err, line, field.argument)?,
             "out_part" => self
                 .out
                 .extend_from_slice(&text_of(alloc, line, field.argument)?)?,
@@ -61,6 +63,7 @@ impl Expected {
             "edges" => self.edges = Some(number_of(alloc, line, field.argument)? as u64),
             "report" => self.report = Some(line),
             "after" => self.take_after(alloc, field)?,
+            "after_text" => self.take_after_line(alloc, field)?,
             "after_none" => self.after_none.push(word_of(alloc, line, field.argument)?)?,
             _ => return Ok(false),
         }
@@ -94,13 +97,21 @@ impl Expected {
         self.after.push(NamedFile { name, bytes })?;
         Ok(())
     }
-}
 
-/// Appends the text of a line, and a line feed.
-fn append_line(alloc: Global, bytes: &mut Vec<u8>, field: Field<'_>) -> Result<(), Stop> {
-    bytes.extend_from_slice(&text_of(alloc, field.line, field.argument)?)?;
-    bytes.push(b'\n')?;
-    Ok(())
+    /// `after_text NAME TEXT`: one more line of what the file holds after the call.
+    fn take_after_line(&mut self, alloc: Global, field: Field<'_>) -> Result<(), Stop> {
+        let (name, text) = name_and_rest(field);
+        let name = word_of(alloc, field.line, name)?;
+        for file in self.after.iter_mut() {
+            if file.name == name {
+                return append_line(alloc, &mut file.bytes, field.line, text);
+            }
+        }
+        let mut bytes = Vec::new(alloc);
+        append_line(alloc, &mut bytes, field.line, text)?;
+        self.after.push(NamedFile { name, bytes })?;
+        Ok(())
+    }
 }
 
 /// Appends the lines of so many instructions of one byte that do nothing, from the start of a method on.

@@ -1,6 +1,6 @@
 //! The files that a case gives.
 
-use crate::arguments::{bytes_of, number_of, two_parts, word_of};
+use crate::arguments::{append_line, bytes_of, name_and_rest, number_of, two_parts, word_of};
 use crate::devices::CaseFiles;
 use crate::plan::OpenPlan;
 use crate::wrong::{Stop, stop_at};
@@ -26,8 +26,8 @@ impl Given {
 
     /// Takes a line that makes or changes a file. Answers whether it is one.
     pub fn take(&mut self, alloc: Global, field: Field<'_>) -> Result<bool, Stop> {
-        if field.keyword == "method" {
-            self.add_method(alloc, field)?;
+        if OpenPlan::takes(field.keyword) {
+            self.add_to_plan(alloc, field)?;
             return Ok(true);
         }
         self.close(alloc)?;
@@ -35,6 +35,7 @@ impl Given {
             "assembly" => self.plan = Some(OpenPlan::begun(alloc, field, false)?),
             "wide_assembly" => self.plan = Some(OpenPlan::begun(alloc, field, true)?),
             "file" => self.hold(alloc, field)?,
+            "text" => self.add_line(alloc, field)?,
             "append" => self.append(alloc, field)?,
             "cut" => self.cut(alloc, field)?,
             "patch" => self.patch(alloc, field)?,
@@ -55,20 +56,17 @@ impl Given {
         }
     }
 
-    /// Adds a method to the assembly that is planned.
-    fn add_method(&mut self, alloc: Global, field: Field<'_>) -> Result<(), Stop> {
+    /// Adds what a line says to the assembly that is planned.
+    fn add_to_plan(&mut self, alloc: Global, field: Field<'_>) -> Result<(), Stop> {
         match &mut self.plan {
             Some(plan) => plan.add(alloc, field),
-            None => Err(stop_at(alloc, field.line, "a method of no assembly")),
+            None => Err(stop_at(alloc, field.line, "a line of no assembly")),
         }
     }
 
     /// `file NAME HEX`: the file of these bytes.
     fn hold(&mut self, alloc: Global, field: Field<'_>) -> Result<(), Stop> {
-        let (name, hex) = field
-            .argument
-            .split_once(' ')
-            .unwrap_or((field.argument, ""));
+        let (name, hex) = name_and_rest(field);
         let name = word_of(alloc, field.line, name)?;
         let bytes = bytes_of(alloc, field.line, hex)?;
         self.files.files.hold(alloc, name.as_str(), &bytes)?;
@@ -93,6 +91,19 @@ impl Given {
         };
         let name = word_of(alloc, field.line, name)?;
         self.files.files.hold(alloc, name.as_str(), bytes)?;
+        Ok(())
+    }
+
+    /// `text NAME TEXT`: one more line of the file, which is empty before its first.
+    fn add_line(&mut self, alloc: Global, field: Field<'_>) -> Result<(), Stop> {
+        let (name, text) = name_and_rest(field);
+        let name = word_of(alloc, field.line, name)?;
+        let mut bytes = match self.files.files.get(name.as_str()) {
+            Some(bytes) => Vec::from_slice(alloc, bytes)?,
+            None => Vec::new(alloc),
+        };
+        append_line(alloc, &mut bytes, field.line, text)?;
+        self.files.files.hold(alloc, name.as_str(), &bytes)?;
         Ok(())
     }
 

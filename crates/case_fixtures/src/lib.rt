@@ -7,6 +7,8 @@ mod compared;
 mod devices;
 mod expected;
 mod given;
+#[cfg(test)]
+mod line_rows;
 mod plan;
 mod wrong;
 

@@ -1,8 +1,9 @@
-//! Assemblies that a case describes: `assembly FILE NAMESPACE CLASS`, or `wide_assembly`, and a line for each method.
+//! Assemblies that a case describes: `assembly FILE NAMESPACE CLASS`, or `wide_assembly`, then a line for each method,
+//! for the assembly's name and for each method of others that it may call.
 
 use crate::arguments::{bytes_of, short_number_of, text_of, word_of};
 use crate::wrong::{Stop, stop_at};
-use asm_writer::{AsmPlan, MethodPlan, WriteRefusal, write_assembly};
+use asm_writer::{AsmPlan, Extern, MethodPlan, WriteRefusal, write_linked};
 use case_reader::Field;
 use cil_model::Place;
 use std::alloc::Global;
@@ -14,6 +15,10 @@ pub struct OpenPlan {
     pub name: String,
     line: u64,
     plan: AsmPlan,
+    /// The name of the assembly, where it is not that of the class.
+    assembly: Option<Vec<u8>>,
+    /// The methods of other assemblies that its code may call.
+    externs: Vec<Extern>,
 }
 
 impl OpenPlan {
@@ -37,18 +42,35 @@ impl OpenPlan {
                 wide,
                 methods: Vec::new(alloc),
             },
+            assembly: None,
+            externs: Vec::new(alloc),
         })
     }
 
-    /// Adds the method of a line.
+    /// Returns whether a line of this word adds to the assembly that was begun.
+    pub fn takes(keyword: &str) -> bool {
+        keyword == "method" || keyword == "named" || keyword == "extern"
+    }
+
+    /// Adds what a line says: a method, the assembly's name, or a method of another assembly.
     pub fn add(&mut self, alloc: Global, field: Field<'_>) -> Result<(), Stop> {
-        self.plan.methods.push(method_of(alloc, field)?)?;
+        if field.keyword == "method" {
+            self.plan.methods.push(method_of(alloc, field)?)?;
+        } else if field.keyword == "named" {
+            self.assembly = Some(text_of(alloc, field.line, field.argument)?);
+        } else {
+            self.externs.push(extern_of(alloc, field)?)?;
+        }
         Ok(())
     }
 
     /// The file of the assembly.
     pub fn written(&self, alloc: Global) -> Result<Vec<u8>, Stop> {
-        match write_assembly(alloc, &self.plan) {
+        let name = match &self.assembly {
+            Some(name) => name.as_slice(),
+            None => self.plan.class.as_slice(),
+        };
+        match write_linked(alloc, &self.plan, name, &self.externs) {
             Ok(bytes) => Ok(bytes),
             Err(WriteRefusal::TooLarge) => Err(stop_at(alloc, self.line, "too large an assembly")),
             Err(WriteRefusal::NoMemory) => Err(Stop::NoMemory),
@@ -84,6 +106,36 @@ fn method_of(alloc: Global, field: Field<'_>) -> Result<MethodPlan, Stop> {
         locals: places_of(alloc, line, locals)?,
         max_stack: short_number_of(alloc, line, stack)?,
         code: bytes_of(alloc, line, code)?,
+    })
+}
+
+/// The method of another assembly of a line `extern ASSEMBLY NAMESPACE CLASS NAME RESULT ARGUMENTS`.
+fn extern_of(alloc: Global, field: Field<'_>) -> Result<Extern, Stop> {
+    let line = field.line;
+    let mut words = field.argument.split(' ');
+    let (Some(assembly), Some(namespace), Some(class), Some(name), Some(result), Some(args), None) =
+        (
+            words.next(),
+            words.next(),
+            words.next(),
+            words.next(),
+            words.next(),
+            words.next(),
+            words.next(),
+        ) else {
+        return Err(stop_at(
+            alloc,
+            line,
+            "not ASSEMBLY NAMESPACE CLASS NAME RESULT ARGUMENTS",
+        ));
+    };
+    Ok(Extern {
+        assembly: text_of(alloc, line, assembly)?,
+        namespace: text_of(alloc, line, namespace)?,
+        class: text_of(alloc, line, class)?,
+        name: text_of(alloc, line, name)?,
+        result: place_of(alloc, line, result)?,
+        args: places_of(alloc, line, args)?,
     })
 }
 

@@ -1,64 +1,114 @@
--- Over an honest cache the reports are those that are made without one.
-use Rattle.std.proofs.Common.{◌≡◌, ℕ, Bool, List, [], ◌∷◌, ◌++◌, if◌then◌else◌, refl, ap, ◌∙◌}
+-- Reports that are made in two manners which agree on the units of their assemblies are one.
+use Rattle.std.proofs.Common.{◌≡◌, ℕ, Bool, List, [], ◌∷◌, ◌++◌, Option, Some, None, if◌then◌else◌, refl, ap, ◌∙◌}
+use Rattle.std.specs.Prelude.{Contains}
 use Rattle.std.specs.List.{AllByRecursion, flat_map, list_all}
+use Rattle.asm_image.specs.Faults.{FirstBroken}
+use Rattle.asm_image.specs.declared.fault.AsmFault.{AsmFault}
+use Rattle.cil_model.specs.declared.unit.Unit.{Unit as MethodUnit}
 use Rattle.method_unit.specs.Units.{IsUnit}
 use Rattle.unit_builder.specs.Outcomes.{IfAnalysed, entries_of}
 use Rattle.unit_builder.specs.declared.entry.MethodEntry.{MethodEntry}
 use Rattle.unit_builder.specs.declared.entry.Outcome.{Outcome}
 use Rattle.unit_builder.specs.declared.entry.Outcome.TheVariants.{Analysed, Skipped}
+use Rattle.unit_form.specs.Spelling.{unit_bytes}
 use Rattle.answer_lines.specs.Answers.{Answer}
 use Rattle.answer_lines.specs.Lines.{summary_line}
 use Rattle.result_cache.specs.Entries.{Entry}
 use Rattle.unit_verdicts.specs.CacheFile.{AreHonest}
-use Rattle.unit_verdicts.specs.Picks.{limit_manner, limit_pick, pick_of}
+use Rattle.unit_verdicts.specs.Picks.{Manner, limit_manner, shown_text, verdicts_under}
 use Rattle.unit_verdicts.specs.VerdictCache.{manner_under}
+use Rattle.unit_verdicts.specs.declared.source.Source.TheVariants.{Cache as OfCache}
 use Rattle.unit_verdicts.proofs.Honest.{honest_text, honest_verdicts}
-use Rattle.check_driver.specs.CheckText.{Finding, WithVerdicts, all_methods_proved, assembly_line, check_text, entry_lines, finding_lines, findings, found_counts, is_proved, outcome_finding, outcome_shown, summary_text}
+use Rattle.check_driver.specs.Asked.{check_keys, judged_keys, keys_before, outcome_key}
+use Rattle.check_driver.specs.CheckText.{Finding, WithVerdicts, all_methods_proved, assembly_line, check_text, entry_lines, finding_lines, findings, found_counts, is_proved, outcome_finding, outcome_shown, report_text, summary_text}
 use Rattle.check_driver.specs.Checked.{AreRunnable}
+use Rattle.check_driver.specs.Expected.{check_answer, checked_before}
+use Rattle.check_driver.specs.Known.{AreAllRunnable, RunnableBefore}
 use Rattle.check_driver.proofs.SeveralFiles.{answer_then}
 
-module _ (show : Bool) (entries : List Entry) (honest : AreHonest entries) where
-  same_finding : (outcome : Outcome) → IfAnalysed outcome IsUnit → outcome_finding (pick_of entries) outcome ≡ outcome_finding limit_pick outcome
-  same_finding (Analysed unit) is = ap (WithVerdicts unit.callees) (honest_verdicts entries unit honest is)
-  same_finding (Skipped reason) is = refl
+-- In two manners the units of these keys have the same verdicts, and the same is shown of them.
+pub record AgreeOn (a b : Manner) (keys : List (List ℕ)) : Type 0 where
+  pub verdicts : (unit : MethodUnit) → IsUnit unit → Contains keys (unit_bytes unit) → verdicts_under a.pick unit ≡ verdicts_under b.pick unit
+  pub shown : (unit : MethodUnit) → IsUnit unit → Contains keys (unit_bytes unit) → shown_text a unit ≡ shown_text b unit
 
-  same_shown : (outcome : Outcome) → IfAnalysed outcome IsUnit → outcome_shown (manner_under show entries) outcome ≡ outcome_shown (limit_manner show) outcome
-  same_shown (Analysed unit) is = honest_text show entries unit honest is
-  same_shown (Skipped reason) is = refl
+-- All of these keys are among those.
+abbrev pub AreAmong : List (List ℕ) → List (List ℕ) → Type 0
+AreAmong all keys = AllByRecursion (Contains all) keys
+
+first_among : (all xs ys : List (List ℕ)) → AreAmong all (xs ++ ys) → AreAmong all xs
+first_among all [] ys among = tt
+first_among all (x ∷ xs) ys among = (among.0, first_among all xs ys among.1)
+
+last_among : (all xs ys : List (List ℕ)) → AreAmong all (xs ++ ys) → AreAmong all ys
+last_among all [] ys among = among
+last_among all (x ∷ xs) ys among = last_among all xs ys among.1
+
+module _ (a b : Manner) (all : List (List ℕ)) (agree : AgreeOn a b all) where
+  same_finding : (outcome : Outcome) → IfAnalysed outcome IsUnit → AreAmong all (outcome_key outcome) → outcome_finding a.pick outcome ≡ outcome_finding b.pick outcome
+  same_finding (Analysed unit) is among = ap (WithVerdicts unit.callees) (agree.verdicts unit is among.0)
+  same_finding (Skipped reason) is among = refl
+
+  same_shown : (outcome : Outcome) → IfAnalysed outcome IsUnit → AreAmong all (outcome_key outcome) → outcome_shown a outcome ≡ outcome_shown b outcome
+  same_shown (Analysed unit) is among = agree.shown unit is among.0
+  same_shown (Skipped reason) is among = refl
 
   abbrev Runnable : List MethodEntry → Type 0
   Runnable methods = AllByRecursion (λ entry. IfAnalysed entry.outcome IsUnit) methods
 
-  same_lines : (methods : List MethodEntry) → Runnable methods → flat_map (entry_lines (manner_under show entries)) methods ≡ flat_map (entry_lines (limit_manner show)) methods
-  same_lines [] runnable = refl
-  same_lines (entry ∷ methods) runnable =
-      ap (λ (found : Finding). (finding_lines entry.token.0 entry.name found ++ outcome_shown (manner_under show entries) entry.outcome)
-      ++ flat_map (entry_lines (manner_under show entries)) methods) (same_finding entry.outcome runnable.0)
-      ∙ ap (λ (shown : List ℕ). (finding_lines entry.token.0 entry.name (outcome_finding limit_pick entry.outcome) ++ shown)
-      ++ flat_map (entry_lines (manner_under show entries)) methods) (same_shown entry.outcome runnable.0)
-      ∙ ap (λ (lines : List ℕ). entry_lines (limit_manner show) entry ++ lines) (same_lines methods runnable.1)
+  same_lines : (methods : List MethodEntry) → Runnable methods → AreAmong all (judged_keys methods) → flat_map (entry_lines a) methods ≡ flat_map (entry_lines b) methods
+  same_lines [] runnable among = refl
+  same_lines (entry ∷ methods) runnable among =
+      let own = first_among all (outcome_key entry.outcome) (judged_keys methods) among in
+      let later = last_among all (outcome_key entry.outcome) (judged_keys methods) among in
+      ap (λ (found : Finding). (finding_lines entry.token.0 entry.name found ++ outcome_shown a entry.outcome) ++ flat_map (entry_lines a) methods) (same_finding entry.outcome runnable.0 own)
+      ∙ ap (λ (shown : List ℕ). (finding_lines entry.token.0 entry.name (outcome_finding b.pick entry.outcome) ++ shown) ++ flat_map (entry_lines a) methods) (same_shown entry.outcome runnable.0 own)
+      ∙ ap (λ (lines : List ℕ). entry_lines b entry ++ lines) (same_lines methods runnable.1 later)
 
-  same_findings : (methods : List MethodEntry) → Runnable methods → findings (pick_of entries) methods ≡ findings limit_pick methods
-  same_findings [] runnable = refl
-  same_findings (entry ∷ methods) runnable =
-      ap (λ (found : Finding). found ∷ findings (pick_of entries) methods) (same_finding entry.outcome runnable.0)
-      ∙ ap (λ (found : List Finding). outcome_finding limit_pick entry.outcome ∷ found) (same_findings methods runnable.1)
+  same_findings : (methods : List MethodEntry) → Runnable methods → AreAmong all (judged_keys methods) → findings a.pick methods ≡ findings b.pick methods
+  same_findings [] runnable among = refl
+  same_findings (entry ∷ methods) runnable among =
+      let own = first_among all (outcome_key entry.outcome) (judged_keys methods) among in
+      let later = last_among all (outcome_key entry.outcome) (judged_keys methods) among in
+      ap (λ (found : Finding). found ∷ findings a.pick methods) (same_finding entry.outcome runnable.0 own)
+      ∙ ap (λ (found : List Finding). outcome_finding b.pick entry.outcome ∷ found) (same_findings methods runnable.1 later)
 
-  same_text : (name bytes : List ℕ) → AreRunnable bytes → check_text name (manner_under show entries) bytes ≡ check_text name (limit_manner show) bytes
-  unfolding check_text
-  same_text name bytes runnable =
-      ap (λ (lines : List ℕ). assembly_line name ++ lines ++ summary_text (pick_of entries) bytes) (same_lines (entries_of bytes) runnable)
-      ∙ ap (λ (found : List Finding). assembly_line name ++ flat_map (entry_lines (limit_manner show)) (entries_of bytes) ++ summary_line (found_counts found))
-      (same_findings (entries_of bytes) runnable)
+  pub same_text : (name bytes : List ℕ) → AreRunnable bytes → AreAmong all (judged_keys (entries_of bytes)) → check_text name a bytes ≡ check_text name b bytes
+  unfolding report_text
+  same_text name bytes runnable among =
+      ap (λ (lines : List ℕ). assembly_line name ++ lines ++ summary_text a.pick bytes) (same_lines (entries_of bytes) runnable among)
+      ∙ ap (λ (found : List Finding). assembly_line name ++ flat_map (entry_lines b) (entries_of bytes) ++ summary_line (found_counts found))
+      (same_findings (entries_of bytes) runnable among)
 
-  same_proved : (bytes : List ℕ) → AreRunnable bytes → all_methods_proved (pick_of entries) bytes ≡ all_methods_proved limit_pick bytes
-  same_proved bytes runnable = ap (list_all is_proved) (same_findings (entries_of bytes) runnable)
+  pub same_proved : (bytes : List ℕ) → AreRunnable bytes → AreAmong all (judged_keys (entries_of bytes)) → all_methods_proved a.pick bytes ≡ all_methods_proved b.pick bytes
+  same_proved bytes runnable among = ap (list_all is_proved) (same_findings (entries_of bytes) runnable among)
 
   -- The answer for the first assembly, and for those after it.
-  pub alike_first : (name bytes : List ℕ) (others other : Answer) → AreRunnable bytes → others ≡ other
-      → answer_then (check_text name (manner_under show entries) bytes) (if all_methods_proved (pick_of entries) bytes then 0 else 1) others
-      ≡ answer_then (check_text name (limit_manner show) bytes) (if all_methods_proved limit_pick bytes then 0 else 1) other
-  alike_first name bytes others other runnable same =
-      ap (λ (text : List ℕ). answer_then text (if all_methods_proved (pick_of entries) bytes then 0 else 1) others) (same_text name bytes runnable)
-      ∙ ap (λ (proved : Bool). answer_then (check_text name (limit_manner show) bytes) (if proved then 0 else 1) others) (same_proved bytes runnable)
-      ∙ ap (answer_then (check_text name (limit_manner show) bytes) (if all_methods_proved limit_pick bytes then 0 else 1)) same
+  alike_first : (name bytes : List ℕ) (others other : Answer) → AreRunnable bytes → AreAmong all (judged_keys (entries_of bytes)) → others ≡ other
+      → answer_then (check_text name a bytes) (if all_methods_proved a.pick bytes then 0 else 1) others
+      ≡ answer_then (check_text name b bytes) (if all_methods_proved b.pick bytes then 0 else 1) other
+  alike_first name bytes others other runnable among same =
+      ap (λ (text : List ℕ). answer_then text (if all_methods_proved a.pick bytes then 0 else 1) others) (same_text name bytes runnable among)
+      ∙ ap (λ (proved : Bool). answer_then (check_text name b bytes) (if proved then 0 else 1) others) (same_proved bytes runnable among)
+      ∙ ap (answer_then (check_text name b bytes) (if all_methods_proved b.pick bytes then 0 else 1)) same
+
+  alike_before : (name bytes : List ℕ) (fault : Option AsmFault) (others other : Answer) (keys : List (List ℕ)) (Others : Type 0) → RunnableBefore bytes fault Others
+      → AreAmong all (keys_before bytes fault keys) → (Others → AreAmong all keys → others ≡ other) → checked_before name a bytes fault others ≡ checked_before name b bytes fault other
+  alike_before name bytes (Some fault) others other keys Others runnable among later = refl
+  alike_before name bytes None others other keys Others runnable among later =
+      alike_first name bytes others other runnable.0 (first_among all (judged_keys (entries_of bytes)) keys among)
+      (later runnable.1 (last_among all (judged_keys (entries_of bytes)) keys among))
+
+  -- The answers to a check in these manners.
+  pub alike_answers : (names files : List (List ℕ)) → AreAllRunnable files → AreAmong all (check_keys files) → check_answer a names files ≡ check_answer b names files
+  alike_answers [] files runnable among = refl
+  alike_answers (name ∷ names) [] runnable among = refl
+  alike_answers (name ∷ names) (bytes ∷ files) runnable among =
+      alike_before name bytes (FirstBroken bytes) (check_answer a names files) (check_answer b names files) (check_keys files) (AreAllRunnable files) runnable among
+      (λ (its : AreAllRunnable files) (keys : AreAmong all (check_keys files)). alike_answers names files its keys)
+
+-- Where the entries of a cache are honest, it agrees with what a finder answers.
+pub agree_honest : (show : Bool) (entries : List Entry) (keys : List (List ℕ)) → AreHonest entries → AgreeOn (manner_under show (OfCache entries)) (limit_manner show) keys
+agree_honest show entries keys honest = record {
+  verdicts = λ unit is has. honest_verdicts entries unit honest is;
+  shown = λ unit is has. honest_text show entries unit honest is;
+}

@@ -11,19 +11,22 @@ use Rattle.answer_lines.specs.Outcome.{Gives, GivesOrFails, after_line, unread_a
 use Rattle.answer_lines.specs.Writing.{Change}
 use Rattle.answer_lines.specs.declared.interrupt.Interrupt.{Interrupt}
 use Rattle.assembly_answers.proofs.CutFiles.{il_cut, il_file_answer, large_first, list_cut, list_file_answer, refute_bytes_answer, refute_cut, run_bytes_answer, run_cut}
-use Rattle.command_words.specs.Words.{args_told, cache_name, check_files, command_of, file_names, file_indexes, word_at, words_at}
+use Rattle.command_words.specs.Words.{args_told, cache_name, check_files, command_of, file_names, file_indexes, proof_name, word_at, words_at}
 use Rattle.command_words.specs.declared.check_words.CheckWords.{CheckWords}
 use Rattle.command_words.specs.declared.command.Command.{Command}
 use Rattle.command_words.specs.declared.command.Command.TheVariants as commands
+use Rattle.proof_files.specs.Reading.{ProofRead}
 use Rattle.result_cache.specs.Entries.{Entry}
 use Rattle.unit_verdicts.specs.Asked.{distinct, without_entry}
 use Rattle.unit_verdicts.specs.Picks.{Manner}
 use Rattle.unit_verdicts.specs.VerdictCache.{manner_under}
+use Rattle.unit_verdicts.specs.declared.source.Source.TheVariants.{Cache as OfCache}
 use Rattle.check_driver.specs.Asked.{asked_by, asked_unless, bytes_asked, check_asked, check_keys, files_asked, keys_before, unit_file_asked}
-use Rattle.check_driver.specs.CacheLeft.{GivesOrUnreplaced, are_accepted, bytes_left, check_left, files_left, left_by, left_unless, left_where}
-use Rattle.check_driver.specs.CacheMet.{CallMet, cache_entries, cache_refusal, command_cache}
+use Rattle.check_driver.specs.CacheMet.{CallMet, cache_entries, cache_refusal, command_cache, command_proof}
 use Rattle.check_driver.specs.CallRead.{IsReadIndex, cache_bytes}
-use Rattle.check_driver.specs.Expected.{missing_or, expected, unit_file_answer, check_answer, check_manner, checked_before, bytes_answer, files_answer, file_at}
+use Rattle.check_driver.specs.Expected.{missing_or, expected, unit_file_answer, check_answer, check_manner, checked_before, bytes_answer, files_answer, file_at, verify_answer}
+use Rattle.check_driver.specs.FilesLeft.{GivesOrUnreplaced, are_accepted, bytes_left, files_left, left_by, left_unless, left_where}
+use Rattle.check_driver.specs.Known.{WordsKnow}
 use Rattle.check_driver.specs.Met.{AreContents, IsCacheContent, first_missing, contents, bytes_read}
 use Rattle.check_driver.proofs.CacheCuts.{entries_alike, refusal_alike}
 use Rattle.check_driver.proofs.Contents.{file_alike, first_alike}
@@ -63,17 +66,25 @@ check_alike manner (name ∷ names) (under ∷ met) [] h = absurd h
 
 check_met_alike : (check : CheckWords) (words : List (List ℕ)) (met : CallMet) (read : List (Vec ℕ Global)) (cache : Option (Vec ℕ Global)) → AreContents met.files read
     → IsCacheContent met.cache cache
-    → bytes_answer (commands.Check check) words met.cache (contents met.files) ≡ bytes_answer (commands.Check check) words (cache_bytes cache) (bytes_read read)
+    → bytes_answer (commands.Check check) words met.cache met.proof (contents met.files) ≡ bytes_answer (commands.Check check) words (cache_bytes cache) met.proof (bytes_read read)
 check_met_alike check words met read cache h is =
     let name = command_cache words (commands.Check check) in
     let names = words_at words (check_files check) in
     let show = is_some check.show in
     ap (λ (line : List ℕ). after_line line (check_answer (check_manner check met.cache) names (contents met.files))) (refusal_alike name met.cache cache is)
-    ∙ ap (λ (entries : List Entry). after_line (cache_refusal name (cache_bytes cache)) (check_answer (manner_under show entries) names (contents met.files))) (entries_alike met.cache cache is)
+    ∙ ap (λ (entries : List Entry). after_line (cache_refusal name (cache_bytes cache)) (check_answer (manner_under show (OfCache entries)) names (contents met.files))) (entries_alike met.cache cache is)
     ∙ ap (after_line (cache_refusal name (cache_bytes cache))) (check_alike (check_manner check (cache_bytes cache)) names met.files read h)
 
+-- An assembly that was cut off is refused before the proof file is read.
+verify_cut : (name by : List ℕ) (proof : Option ProofRead) (bytes : List ℕ) (limit : ℕ) → limit ≡ READ_LIMIT → READ_LIMIT ≤ length bytes
+    → verify_answer name by proof bytes (FirstBroken bytes) ≡ verify_answer name by proof (take limit bytes) (FirstBroken (take limit bytes))
+verify_cut name by proof bytes limit is past =
+    let whole = large_first bytes past in
+    let cut = large_first (take limit bytes) (omega (arith, length-take limit bytes)) in
+    rw (whole, cut) refl
+
 bytes_alike : (command : Command) (words : List (List ℕ)) (met : CallMet) (read : List (Vec ℕ Global)) (cache : Option (Vec ℕ Global)) → AreContents met.files read
-    → IsCacheContent met.cache cache → bytes_answer command words met.cache (contents met.files) ≡ bytes_answer command words (cache_bytes cache) (bytes_read read)
+    → IsCacheContent met.cache cache → bytes_answer command words met.cache met.proof (contents met.files) ≡ bytes_answer command words (cache_bytes cache) met.proof (bytes_read read)
 bytes_alike (commands.Unit file) words met read cache h is =
     first_alike (unit_file_answer (word_at words file)) met.files read (λ bytes past. unit_cut (word_at words file) bytes READ_LIMIT refl past) h
 bytes_alike (commands.List file) words met read cache h is =
@@ -82,6 +93,9 @@ bytes_alike (commands.Il file method) words met read cache h is =
     first_alike (il_file_answer (word_at words file) (word_at words method)) met.files read
     (λ bytes past. il_cut (word_at words file) (word_at words method) bytes READ_LIMIT refl past) h
 bytes_alike (commands.Check check) words met read cache h is = check_met_alike check words met read cache h is
+bytes_alike (commands.Verify file proof) words met read cache h is =
+    first_alike (λ (bytes : List ℕ). verify_answer (word_at words file) (word_at words proof) met.proof bytes (FirstBroken bytes)) met.files read
+    (λ bytes past. verify_cut (word_at words file) (word_at words proof) met.proof bytes READ_LIMIT refl past) h
 bytes_alike (commands.Refute file method runs) words met read cache h is =
     first_alike (refute_bytes_answer (word_at words file) (word_at words method) runs) met.files read
     (λ bytes past. refute_cut (word_at words file) (word_at words method) runs bytes READ_LIMIT refl past) h
@@ -110,7 +124,7 @@ accepted_cut bytes limit is past =
     let cut = large_first (take limit bytes) (omega (arith, length-take limit bytes)) in
     rw (whole, cut) refl
 
-keys_alike : (met : List (Option (List ℕ))) (read : List (Vec ℕ Global)) → AreContents met read → check_keys (contents met) ≡ check_keys (bytes_read read)
+pub keys_alike : (met : List (Option (List ℕ))) (read : List (Vec ℕ Global)) → AreContents met read → check_keys (contents met) ≡ check_keys (bytes_read read)
 keys_alike [] [] h = refl
 keys_alike (under ∷ met) (bytes ∷ read) h =
     let whole = unwrap_or under [] in
@@ -126,6 +140,7 @@ asked_alike (commands.Unit file) met read cache h is = first_alike unit_file_ask
 asked_alike (commands.Check check) met read cache h is =
     ap (λ (entries : List Entry). check_asked entries (contents met.files)) (entries_alike met.cache cache is)
     ∙ ap (λ (keys : List (List ℕ)). without_entry (cache_entries (cache_bytes cache)) (distinct keys)) (keys_alike met.files read h)
+asked_alike (commands.Verify file proof) met read cache h is = refl
 asked_alike (commands.List file) met read cache h is = refl
 asked_alike (commands.Il file method) met read cache h is = refl
 asked_alike (commands.Run run) met read cache h is = refl
@@ -144,10 +159,13 @@ accepted_alike (under ∷ met) [] h = absurd h
 left_alike : (command : Command) (words : List (List ℕ)) (met : CallMet) (read : List (Vec ℕ Global)) (cache : Option (Vec ℕ Global)) → AreContents met.files read
     → IsCacheContent met.cache cache → bytes_left command words met.cache (contents met.files) ≡ bytes_left command words (cache_bytes cache) (bytes_read read)
 left_alike (commands.Check check) words met read cache h is =
-    let name = command_cache words (commands.Check check) in
-    ap (λ (entries : List Entry). check_left name entries (contents met.files)) (entries_alike met.cache cache is)
-    ∙ ap (λ (accepted : Bool). left_where accepted name (cache_entries (cache_bytes cache)) (distinct (check_keys (contents met.files)))) (accepted_alike met.files read h)
-    ∙ ap (λ (keys : List (List ℕ)). left_where (are_accepted (bytes_read read)) name (cache_entries (cache_bytes cache)) (distinct keys)) (keys_alike met.files read h)
+    let command = commands.Check check in
+    let proof = command_proof words command in
+    let name = command_cache words command in
+    ap (λ (entries : List Entry). left_where (are_accepted (contents met.files)) proof name (OfCache entries) (distinct (check_keys (contents met.files)))) (entries_alike met.cache cache is)
+    ∙ ap (λ (accepted : Bool). left_where accepted proof name (OfCache (cache_entries (cache_bytes cache))) (distinct (check_keys (contents met.files)))) (accepted_alike met.files read h)
+    ∙ ap (λ (keys : List (List ℕ)). left_where (are_accepted (bytes_read read)) proof name (OfCache (cache_entries (cache_bytes cache))) (distinct keys)) (keys_alike met.files read h)
+left_alike (commands.Verify file proof) words met read cache h is = refl
 left_alike (commands.Unit file) words met read cache h is = refl
 left_alike (commands.List file) words met read cache h is = refl
 left_alike (commands.Il file method) words met read cache h is = refl
@@ -160,14 +178,22 @@ pub only_file : (read : List (Vec ℕ Global)) (other : Vec ℕ Global) → leng
 only_file [] other one = absurd (omega (arith, one))
 only_file (file ∷ read) other one = refl
 
+-- Two files are the first and the second.
+pub two_files : (read : List (Vec ℕ Global)) (other next : Vec ℕ Global) → length read ≡ 2
+    → bytes_read read ≡ (slice_index_or read 0 other).items ∷ (slice_index_or read 1 next).items ∷ []
+two_files [] other next two = absurd (omega (arith, two))
+two_files (file ∷ []) other next two = absurd (omega (arith, two))
+two_files (file ∷ proof ∷ []) other next two = refl
+two_files (file ∷ proof ∷ third ∷ read) other next two = absurd (omega (arith, two))
+
 -- ---- answers to a command
 
 -- Files that were read have the answer for what was read.
 pub read_answer : (command : Command) (words : List (List ℕ)) (met : CallMet) (read : List (Vec ℕ Global)) (cache : Option (Vec ℕ Global)) → AreContents met.files read
-    → IsCacheContent met.cache cache → files_answer command words met ≡ bytes_answer command words (cache_bytes cache) (bytes_read read)
+    → IsCacheContent met.cache cache → files_answer command words met ≡ bytes_answer command words (cache_bytes cache) met.proof (bytes_read read)
 read_answer command words met read cache h is =
     let none = none_missing (words_at words (file_indexes command)) met.files read h in
-    ap (λ (missing : Option (List ℕ)). missing_or missing (bytes_answer command words met.cache (contents met.files))) none ∙ bytes_alike command words met read cache h is
+    ap (λ (missing : Option (List ℕ)). missing_or missing (bytes_answer command words met.cache met.proof (contents met.files))) none ∙ bytes_alike command words met read cache h is
 
 pub read_asked : (command : Command) (words : List (List ℕ)) (met : CallMet) (read : List (Vec ℕ Global)) (cache : Option (Vec ℕ Global)) → AreContents met.files read
     → IsCacheContent met.cache cache → files_asked command words met ≡ bytes_asked command (cache_bytes cache) (bytes_read read)
@@ -188,7 +214,7 @@ missing_asked command words met name first =
     ap (λ (missing : Option (List ℕ)). asked_unless missing (bytes_asked command met.cache (contents met.files))) first
 
 pub missing_left : (command : Command) (words : List (List ℕ)) (met : CallMet) (name : List ℕ)
-    → first_missing (words_at words (file_indexes command)) met.files ≡ Some name → files_left command words met ≡ None
+    → first_missing (words_at words (file_indexes command)) met.files ≡ Some name → files_left command words met ≡ []
 missing_left command words met name first =
     ap (λ (missing : Option (List ℕ)). left_unless missing (bytes_left command words met.cache (contents met.files))) first
 
@@ -196,7 +222,7 @@ missing_left command words met name first =
 pub missing_answer : (command : Command) (words : List (List ℕ)) (met : CallMet) (name : List ℕ)
     → first_missing (words_at words (file_indexes command)) met.files ≡ Some name → files_answer command words met ≡ error_answer 3 (missing_line name)
 missing_answer command words met name first =
-    ap (λ (missing : Option (List ℕ)). missing_or missing (bytes_answer command words met.cache (contents met.files))) first
+    ap (λ (missing : Option (List ℕ)). missing_or missing (bytes_answer command words met.cache met.proof (contents met.files))) first
 
 -- ---- a file that was not read
 
@@ -249,12 +275,19 @@ no_command_answer words met e = rw (← e) refl
 pub no_command_asked : (words : List (List ℕ)) (met : CallMet) → None ≡ command_of words → asked_by words met ≡ []
 no_command_asked words met e = rw (← e) refl
 
-pub no_command_left : (words : List (List ℕ)) (met : CallMet) → None ≡ command_of words → left_by words met ≡ None
+pub no_command_left : (words : List (List ℕ)) (met : CallMet) → None ≡ command_of words → left_by words met ≡ []
 no_command_left words met e = rw (← e) refl
 
--- They name no file, and no cache.
+-- Nothing is known of them.
+pub no_command_known : (words : List (List ℕ)) (met : CallMet) (r : Result ℕ Interrupt) → None ≡ command_of words → WordsKnow words met r
+no_command_known words met r e = rw (← e) tt
+
+-- They name no file, no proof file, and no cache.
 pub no_command_files : (words : List (List ℕ)) → None ≡ command_of words → file_names words ≡ []
 no_command_files words e = rw (← e) refl
+
+pub no_command_proof : (words : List (List ℕ)) → None ≡ command_of words → proof_name words ≡ None
+no_command_proof words e = rw (← e) refl
 
 pub no_command_cache : (words : List (List ℕ)) → None ≡ command_of words → cache_name words ≡ None
 no_command_cache words e = rw (← e) refl

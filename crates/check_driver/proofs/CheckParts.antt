@@ -1,6 +1,6 @@
 -- A check in its parts: its cache is opened, its assemblies are answered, and its cache is left.
-use Rattle.std.proofs.Common.{◌≡◌, ◌⊎◌, ℕ, max, nat_le, Bool, true, false, ◌&&◌, List, [], ◌∷◌, length, Vec, Global, Option, Some, None, is_none, Result, Ok, Err, if◌then◌else◌, refl, sym, ap, subst, ◌∙◌, arith, inl, inr}
-use Rattle.std.specs.Prelude.{IfOk, OnOk}
+use Rattle.std.proofs.Common.{◌≡◌, ℕ, ◌≤◌, max, nat_le, Bool, true, false, ◌&&◌, ◌||◌, List, [], ◌∷◌, length, Vec, Global, Option, Some, None, is_none, is_some, Result, Ok, Err, if◌then◌else◌, refl, sym, ap, subst, ◌∙◌, arith, inl, inr}
+use Rattle.std.specs.Prelude.{IfOk, IfSome, OnOk}
 use Rattle.std.proofs.lemmas.Bool.{cases_lt, le-leb}
 use Rattle.std.proofs.lemmas.List.{length-map}
 use Rattle.asm_image.specs.Faults.{FirstBroken}
@@ -22,16 +22,19 @@ use Rattle.command_words.specs.declared.command.Command.{Command}
 use Rattle.command_words.specs.declared.command.Command.TheVariants as commands
 use Rattle.result_cache.specs.Entries.{Entry}
 use Rattle.unit_verdicts.specs.Asked.{Asks, distinct}
-use Rattle.unit_verdicts.specs.CacheFile.{AreHonest}
-use Rattle.unit_verdicts.specs.Picks.{Manner, limit_manner}
-use Rattle.unit_verdicts.specs.VerdictCache.{CachedUnits, manner_of}
+use Rattle.unit_verdicts.specs.Picks.{Manner, entries_in}
+use Rattle.unit_verdicts.specs.ProofLeft.{IsProofLeft}
+use Rattle.unit_verdicts.specs.VerdictCache.{CachedUnits}
+use Rattle.unit_verdicts.specs.declared.source.Source.TheVariants.{Cache as OfCache}
 use Rattle.check_driver.specs.Asked.{asked_for, begun_units, bytes_asked, check_keys, with_judged}
-use Rattle.check_driver.specs.CacheLeft.{AnswerLeaves, AreLeft, GivesOrUnreplaced, IfNamed, LeftFile, are_accepted, bytes_left, check_left, left_where}
-use Rattle.check_driver.specs.CacheMet.{cache_entries, cache_refusal, command_cache}
+use Rattle.check_driver.specs.CacheMet.{cache_entries, cache_refusal, command_cache, command_proof}
 use Rattle.check_driver.specs.CheckText.{all_methods_proved}
 use Rattle.check_driver.specs.Expected.{bytes_answer, check_answer, check_manner, checked_before}
-use Rattle.check_driver.specs.HonestCaches.{AlikeWhereHonest, HonestWhereHonest}
+use Rattle.check_driver.specs.FilesLeft.{AnswerLeaves, AreLeft, FrontIsLeft, GivesOrUnreplaced, IfEither, IfNamed, LeftFile, are_accepted, bytes_left, check_left, left_where}
+use Rattle.check_driver.specs.HonestCaches.{HonestWhereHonest}
+use Rattle.check_driver.specs.Known.{AreAllRunnable, KnowsCheck}
 use Rattle.check_driver.specs.Met.{bytes_read}
+use Rattle.check_driver.proofs.LeftFiles.{all_left, keeps_same}
 
 -- What is so in any case is so where the call gave something.
 pub where_ok : {X E P : Type 0} (r : Result X E) → P → OnOk r P
@@ -66,68 +69,65 @@ few_where_accepted manner [] (bytes ∷ files) long = absurd (omega (arith, long
 few_where_accepted manner (name ∷ names) [] long = absurd (omega (arith, long))
 
 -- What is left is what is expected.
-pub left_is : (name : Option (List ℕ)) (check : CheckWords) (met : Option (List ℕ)) (manner : Manner) (names files : List (List ℕ)) (status : ℕ) (cache : CachedUnits)
+pub left_is : (words : List (List ℕ)) (check : CheckWords) (met : Option (List ℕ)) (manner : Manner) (names files : List (List ℕ)) (status : ℕ) (cache : CachedUnits)
     → length files ≡ length names → status ≡ (check_answer manner names files).status → cache ≡ with_judged (begun_units check met) (check_keys files)
-    → left_where (nat_le status 1) name cache.held cache.keys ≡ check_left name (cache_entries met) files
-left_is name check met manner names files status cache long is judged =
-    ap (λ (c : CachedUnits). left_where (nat_le status 1) name c.held c.keys) judged
-    ∙ ap (λ (accepted : Bool). left_where accepted name (cache_entries met) (distinct (check_keys files)))
+    → left_where (nat_le status 1) (command_proof words (commands.Check check)) (command_cache words (commands.Check check)) cache.held cache.keys
+    ≡ check_left words (commands.Check check) met files
+left_is words check met manner names files status cache long is judged =
+    let proof = command_proof words (commands.Check check) in
+    let own = command_cache words (commands.Check check) in
+    ap (λ (c : CachedUnits). left_where (nat_le status 1) proof own c.held c.keys) judged
+    ∙ ap (λ (accepted : Bool). left_where accepted proof own (OfCache (cache_entries met)) (distinct (check_keys files)))
     (ap (λ (n : ℕ). nat_le n 1) is ∙ few_where_accepted manner names files long)
 
 -- ---- answers
 
 -- The call was interrupted before its files were changed.
-pub leaves_as_before : (left : Option LeftFile) (text : List ℕ) (i : Interrupt) (out : Change) (old new : Option Held) → new ≡ old → AnswerLeaves left text (Err i) out old new
+pub leaves_as_before : (left : List LeftFile) (text : List ℕ) (i : Interrupt) (out : Change) (old new : Option Held) → new ≡ old → AnswerLeaves left text (Err i) out old new
 leaves_as_before left text i out old new same = record { whole = tt; either = inl same }
 
 -- Nothing is to be left.
-pub leaves_none : (text : List ℕ) (r : Result ℕ Interrupt) (out : Change) (old new : Option Held) → new ≡ old → AnswerLeaves None text r out old new
+pub leaves_none : (text : List ℕ) (r : Result ℕ Interrupt) (out : Change) (old new : Option Held) → new ≡ old → AnswerLeaves [] text r out old new
 leaves_none text (Ok status) out old new same = record { whole = λ other. same; either = inl same }
 leaves_none text (Err i) out old new same = record { whole = tt; either = inl same }
 
--- All was written, and what was to be left was or was not.
-pub leaves_ended : (left other : Option LeftFile) (text : List ℕ) (i : Interrupt) (out : Change) (old new : Option Held) → other ≡ left → WritesAll out text
-    → (new ≡ old) ⊎ AreLeft other old new → AnswerLeaves left text (Err i) out old new
-leaves_ended left other text i out old new same all (inl is) = record { whole = tt; either = inl is }
-leaves_ended left other text i out old new same all (inr is) = record { whole = tt; either = inr (subst (λ (file : Option LeftFile). AreLeft file old new) same is, all) }
+-- All was written, and then the first of what was to be left was left.
+pub leaves_ended : (left other : List LeftFile) (text : List ℕ) (i : Interrupt) (out : Change) (old new : Option Held) → other ≡ left → WritesAll out text
+    → FrontIsLeft other old new → AnswerLeaves left text (Err i) out old new
+leaves_ended left other text i out old new same all is =
+    record { whole = tt; either = inr (subst (λ (files : List LeftFile). FrontIsLeft files old new) same is, all) }
 
-pub leaves_whole : (left other : Option LeftFile) (text : List ℕ) (status : ℕ) (out : Change) (old new : Option Held) → other ≡ left → WritesAll out text
+pub leaves_whole : (left other : List LeftFile) (text : List ℕ) (status : ℕ) (out : Change) (old new : Option Held) → other ≡ left → WritesAll out text
     → AreLeft other old new → AnswerLeaves left text (Ok status) out old new
 leaves_whole left other text status out old new same all is =
-    let its = subst (λ (file : Option LeftFile). AreLeft file old new) same is in
-    record { whole = λ _. its; either = inr (its, all) }
+    let its = subst (λ (files : List LeftFile). AreLeft files old new) same is in
+    record { whole = λ _. its; either = inr (all_left left old new its, all) }
 
 -- ---- honest caches
 
 -- Files that are as before are so in any case.
-pub honest_as_before : (name : Option (List ℕ)) (entries : List Entry) (old new : Option Held) → new ≡ old → HonestWhereHonest name entries old new
-honest_as_before None entries old new same = same
-honest_as_before (Some name) entries old new same = λ honest. inl same
-
--- An interrupted answer is none.
-pub alike_none : (entries : List Entry) (answer other : Answer) (i : Interrupt) → AlikeWhereHonest entries answer other (Err i)
-alike_none entries answer other i = λ honest. tt
-
--- An answer that does not depend on the cache.
-pub alike_same : (entries : List Entry) (answer : Answer) (r : Result ℕ Interrupt) → AlikeWhereHonest entries answer answer r
-alike_same entries answer (Ok status) = λ honest read. record { out = refl; status = refl }
-alike_same entries answer (Err i) = λ honest. tt
-
--- Answers behind lines.
-pub alike_behind : (entries : List Entry) (line text : List ℕ) (answer other : Answer) (status : ℕ) → (AreHonest entries → answer ≡ other)
-    → AlikeWhereHonest entries (after_line line answer) (after_line text other) (Ok status)
-alike_behind entries line text answer other status same =
-    λ honest read. record { out = ap (λ (a : Answer). a.out) (same honest); status = ap (λ (a : Answer). a.status) (same honest) }
-
--- An answer that is equal to another one.
-pub alike_is : (entries : List Entry) (a b c d : Answer) (r : Result ℕ Interrupt) → a ≡ b → c ≡ d → AlikeWhereHonest entries b d r → AlikeWhereHonest entries a c r
-alike_is entries a b c d r same also alike =
-    subst (λ (x : Answer). AlikeWhereHonest entries x c r) (sym same) (subst (λ (x : Answer). AlikeWhereHonest entries b x r) (sym also) alike)
+pub honest_as_before : (name proof : Option (List ℕ)) (entries : List Entry) (old new : Option Held) → new ≡ old → HonestWhereHonest name proof entries old new
+honest_as_before None proof entries old new same = tt
+honest_as_before (Some name) proof entries old new same = λ honest differs. keeps_same name old new same
 
 -- What came late in a call came in it.
-pub named_rose : (name : Option (List ℕ)) (f0 f1 f2 : ℕ) → Kept f0 f1 → IfNamed name (Rose f1 f2) → IfNamed name (Rose f0 f2)
-named_rose None f0 f1 f2 kept never = never
-named_rose (Some name) f0 f1 f2 kept rose = Kept-Rose f0 f1 f2 kept rose
+one_rose : (name : Option (List ℕ)) (f0 f1 f2 : ℕ) → Kept f0 f1 → IfNamed name (Rose f1 f2) → IfNamed name (Rose f0 f2)
+one_rose None f0 f1 f2 kept never = never
+one_rose (Some name) f0 f1 f2 kept rose = Kept-Rose f0 f1 f2 kept rose
+
+pub named_rose : (proof cache : Option (List ℕ)) (f0 f1 f2 : ℕ) → Kept f0 f1 → IfEither proof cache (Rose f1 f2) → IfEither proof cache (Rose f0 f2)
+named_rose proof cache f0 f1 f2 kept (inl rose) = inl (one_rose proof f0 f1 f2 kept rose)
+named_rose proof cache f0 f1 f2 kept (inr rose) = inr (one_rose cache f0 f1 f2 kept rose)
+
+-- Invariants are kept where a proof file or a cache is to be left.
+pub keeps_for : {X : Type 0} (proof : Option X) (other keeps : Bool) → keeps ≡ (other || is_some proof) → IfSome proof (λ _. keeps ≡ true)
+keeps_for None other keeps is = tt
+keeps_for (Some one) true keeps is = is
+keeps_for (Some one) false keeps is = is
+
+pub first_keeps_for : {X : Type 0} (cache : Option X) (other keeps : Bool) → keeps ≡ (is_some cache || other) → IfSome cache (λ _. keeps ≡ true)
+first_keeps_for None other keeps is = tt
+first_keeps_for (Some one) other keeps is = is
 
 -- As many files as names.
 pub as_many : (words : List (List ℕ)) (files : List ℕ) (read : List (Vec ℕ Global)) → length read ≡ length files
@@ -156,7 +156,7 @@ module _ (check : CheckWords) (words : List (List ℕ)) (met : Option (List ℕ)
   reports = check_answer manner names files
 
   abbrev answer : Answer
-  answer = bytes_answer command words met files
+  answer = bytes_answer command words met None files
 
   -- Its cache was refused, and the line was interrupted.
   pub stopped_at_line : {X : Type 0} (i : Interrupt) (unreplaced : Type 0) (o : Option (List ℕ)) (p : Option ℕ) (f : ℕ) (err : Change) → Writes {X = X} (Err i) err line
@@ -190,43 +190,35 @@ module _ (check : CheckWords) (words : List (List ℕ)) (met : Option (List ℕ)
   -- What is left is what is expected.
   module _ (status : ℕ) (begun cache : CachedUnits) (long : length files ≡ length names) (is : status ≡ reports.status) (begins : begun ≡ begun_units check met)
       (judged : cache ≡ with_judged begun (check_keys files)) where
-    abbrev left : Option LeftFile
+    abbrev left : List LeftFile
     left = bytes_left command words met files
 
-    abbrev own : Option LeftFile
-    own = left_where (nat_le status 1) name cache.held cache.keys
+    abbrev own : List LeftFile
+    own = left_where (nat_le status 1) (command_proof words command) name cache.held cache.keys
+
+    units_are : cache ≡ with_judged (begun_units check met) (check_keys files)
+    units_are = judged ∙ ap (λ (c : CachedUnits). with_judged c (check_keys files)) begins
 
     own_is : own ≡ left
-    own_is = left_is name check met manner names files status cache long is (judged ∙ ap (λ (c : CachedUnits). with_judged c (check_keys files)) begins)
+    own_is = left_is words check met manner names files status cache long is units_are
 
-    pub left_or_not : (i : Interrupt) (out : Change) (old new : Option Held) → WritesAll out reports.out → (new ≡ old) ⊎ AreLeft own old new
-        → AnswerLeaves left answer.out (Err i) out old new
+    pub left_or_not : (i : Interrupt) (out : Change) (old new : Option Held) → WritesAll out reports.out → FrontIsLeft own old new → AnswerLeaves left answer.out (Err i) out old new
     left_or_not i out old new all is = leaves_ended left own answer.out i out old new own_is all is
 
     pub left_at_last : (out : Change) (old new : Option Held) → WritesAll out reports.out → AreLeft own old new → AnswerLeaves left answer.out (Ok status) out old new
     left_at_last out old new all is = leaves_whole left own answer.out status out old new own_is all is
 
-  -- The reports are those that are made without a cache.
-  pub alike_reports : (cache : CachedUnits) (status : ℕ) → cache ≡ begun_units check met
-      → (AreHonest cache.held → check_answer (manner_of cache) names files ≡ check_answer (limit_manner cache.show) names files)
-      → AlikeWhereHonest (cache_entries met) answer (bytes_answer command words None files) (Ok status)
-  alike_reports cache status is same =
-      alike_behind (cache_entries met) line (cache_refusal name None) reports (check_answer (check_manner check None) names files) status
-      (subst (λ (c : CachedUnits). AreHonest c.held → check_answer (manner_of c) names files ≡ check_answer (limit_manner c.show) names files) is same)
+    -- What is known of its files and of its proof file.
+    pub knows_check : AreAllRunnable files → (status ≤ 1 → IfSome check.proof (λ _. IsProofLeft cache.held cache.keys)) → KnowsCheck check met files status
+    knows_check runnable its = record {
+      runnable = runnable;
+      left = λ few. subst (λ (c : CachedUnits). IfSome check.proof (λ _. IsProofLeft c.held c.keys)) units_are (its few);
+    }
 
-  -- The file that is left is honest.
-  pub honest_left : (begun cache : CachedUnits) (old new : Option Held) → begun ≡ begun_units check met → cache ≡ with_judged begun (check_keys files)
-      → HonestWhereHonest name cache.held old new → HonestWhereHonest name (cache_entries met) old new
-  honest_left begun cache old new begins judged honest =
-      subst (λ (entries : List Entry). HonestWhereHonest name entries old new)
-      (ap (λ (c : CachedUnits). c.held) judged ∙ ap (λ (c : CachedUnits). c.held) begins) honest
-
--- ---- answers to other commands
-
-pub gives_plain : (given : Answer) (unreplaced : Type 0) (r : Result ℕ Interrupt) (out errors : Change) → Gives given r out errors → GivesOrUnreplaced given unreplaced r out errors
-gives_plain given unreplaced r out errors gives = inl (inl gives)
-
-pub ruleset other_answers = (gives_plain, leaves_none, alike_same)
+    -- The cache that is left is honest.
+    pub honest_left : (old new : Option Held) → HonestWhereHonest name (command_proof words command) (entries_in cache.held) old new
+        → HonestWhereHonest name (command_proof words command) (cache_entries met) old new
+    honest_left old new honest = subst (λ (c : CachedUnits). HonestWhereHonest name (command_proof words command) (entries_in c.held) old new) units_are honest
 
 -- ---- texts
 

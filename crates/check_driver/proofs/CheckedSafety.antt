@@ -1,15 +1,15 @@
 -- Where the section of an assembly has the line that tells a method to be proved, the method is safe.
-use Rattle.std.proofs.Common.{◌≡◌, ℕ, List, [], ◌++◌, Option, Some, None, slice_get, codes, sym, ap, subst, ◌∙◌, append_assoc}
+use Rattle.std.proofs.Common.{◌≡◌, ℕ, List, [], ◌∷◌, ◌++◌, Option, Some, None, slice_get, codes, sym, ap, subst, ◌∙◌, append_assoc}
 use Rattle.std.specs.Prelude.{Contains, IfSome, is_some, unwrap_or}
 use Rattle.std.proofs.lemmas.Option.{none-some}
 use Rattle.asm_image.specs.Rows.{methods_of}
 use Rattle.asm_image.specs.declared.method_row.MethodRow.{MethodRow}
 use Rattle.cc_base.specs.Digits.{hex}
 use Rattle.cc_base.specs.Files.{Held}
-use Rattle.command_words.specs.Words.{check_files, checked_files, command_of, words_at}
+use Rattle.command_words.specs.Words.{check_files, checked_files, checked_indexes, command_of, words_at}
 use Rattle.command_words.specs.declared.command.Command.{Command}
 use Rattle.command_words.specs.declared.command.Command.TheVariants as commands
-use Rattle.check_driver.specs.Checked.{AreHeldBegun, IfCheck, IsReportable, IsSafeMethod, held_files}
+use Rattle.check_driver.specs.Checked.{AreHeldBegun, IfReports, IsReportable, IsSafeMethod, held_files}
 use Rattle.check_driver.specs.Headline.{IsAssemblyOf, WasAppended}
 use Rattle.check_driver.specs.Sections.{HasProvedLine, proved_line, section}
 use Rattle.check_driver.proofs.Members.{mapped_at}
@@ -21,7 +21,7 @@ use Rattle.unit_verdicts.specs.Picks.{Manner}
 -- The reports of the files that these words name were begun as far as was written.
 abbrev pub AreBegunOf : Option Held → List (List ℕ) → Option (List ℕ) → Option (List ℕ) → Option Command → Type 0
 AreBegunOf told words old new command =
-    IfSome command (λ some. IfCheck some (λ check. AreHeldBegun told (words_at words (check_files check)) old new))
+    IfSome command (λ some. IfReports some (AreHeldBegun told (words_at words (checked_indexes some)) old new))
 
 -- What is known of a call's assembly and of what was appended.
 pub record IsKnownOf (told : Option Held) (words : List (List ℕ)) (held : Held) (k : ℕ) (bytes text : List ℕ) (old new : Option (List ℕ)) : Type 0 where
@@ -53,12 +53,16 @@ module _ (told : Option Held) (words : List (List ℕ)) (held : Held) (k : ℕ) 
         has = subst (λ (file : List ℕ × List ℕ). Contains (said_of manner file) line) same found.has;
       }
 
-  said_by : (line : List ℕ) → Contains (section k text) line → (command : Option Command) → slice_get (checked_files words command) k ≡ Some is.assembly.name
-      → AreBegunOf told words old new command → IsSaid bytes line
-  said_by line has (Some (commands.Check check)) kth begun =
-      let names = words_at words (check_files check) in
+  said_of_names : (line : List ℕ) → Contains (section k text) line → (names : List (List ℕ)) → slice_get names k ≡ Some is.assembly.name → AreHeldBegun told names old new
+      → IsSaid bytes line
+  said_of_names line has names kth begun =
       let (manner, its) = begun held is.told_is in
       said_of_file manner names line kth (begun_section manner (held_files held names) old new text k line its is.appended has)
+
+  said_by : (line : List ℕ) → Contains (section k text) line → (command : Option Command) → slice_get (checked_files words command) k ≡ Some is.assembly.name
+      → AreBegunOf told words old new command → IsSaid bytes line
+  said_by line has (Some (commands.Check check)) kth begun = said_of_names line has (words_at words (check_files check)) kth begun
+  said_by line has (Some (commands.Verify file proof)) kth begun = said_of_names line has (words_at words (file ∷ [])) kth begun
   said_by line has (Some (commands.Unit file)) kth begun = absurd (none-some is.assembly.name kth)
   said_by line has (Some (commands.List file)) kth begun = absurd (none-some is.assembly.name kth)
   said_by line has (Some (commands.Il file method)) kth begun = absurd (none-some is.assembly.name kth)

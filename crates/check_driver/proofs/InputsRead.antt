@@ -9,11 +9,12 @@ use Rattle.command_words.proofs.UsedIndexes.{cache_used, files_used}
 use Rattle.command_words.specs.declared.command.Command.{Command}
 use Rattle.check_driver.specs.CacheMet.{CallMet, IsCacheUnder, IsMet, command_cache}
 use Rattle.check_driver.specs.CallRead.{IsReadIndex, ReadsCall, ReadsItsCache, cache_bytes}
-use Rattle.check_driver.specs.Met.{AreUnder, IsCacheContent, Reads}
+use Rattle.check_driver.specs.Met.{AreUnder, IsCacheContent, Reads, contents}
 use Rattle.check_driver.specs.declared.inputs.Inputs.{Inputs}
 use Rattle.check_driver.specs.declared.reading.Unread.{Unread}
 use Rattle.check_driver.specs.declared.reading.Unread.TheVariants as unread
 use Rattle.check_driver.proofs.FilesRead.{all_under, any_under}
+use Rattle.check_driver.proofs.ProofCuts.{none_met}
 
 abbrev Read : Type 0
 Read = Option (Vec ℕ Global)
@@ -33,7 +34,7 @@ pub any_met : (told : Option Held) (names : List (List ℕ)) (name : Option (Lis
 any_met told names name =
     let files = all_under told names in
     let cache = any_cache told name in
-    (record { files = files.0; cache = cache.0 }, record { files = files.1; cache = cache.1 })
+    (record { files = files.0; cache = cache.0; proof = None }, record { files = files.1; cache = cache.1; proof = none_met (contents files.0) })
 
 -- ---- all files
 
@@ -56,8 +57,8 @@ pub stopped_at_file : (told : Option Held) (words : List (List ℕ)) (command : 
     → ReadsAll told words command missed failed (Err e)
 stopped_at_file told words command missed failed e (met, under, reads) =
     let cache = any_cache told (command_cache words command) in
-    let all : CallMet = record { files = met; cache = cache.0 } in
-    (all, record { files = under; cache = cache.1 }, files_stop words command all missed failed e reads)
+    let all : CallMet = record { files = met; cache = cache.0; proof = None } in
+    (all, record { files = under; cache = cache.1; proof = none_met (contents met) }, files_stop words command all missed failed e reads)
 
 -- The cache was not read.
 cache_stop : (words : List (List ℕ)) (command : Command) (met : CallMet) (missed : Type 0) (f0 f1 f2 : ℕ) (e : Unread) → Kept f0 f1 → ReadsItsCache command met.cache (Rose f1 f2) (Err e)
@@ -69,10 +70,10 @@ cache_stop words command met missed f0 f1 f2 unread.NoMemory kept reads = tt
 pub stopped_at_cache : (told now : Option Held) (words : List (List ℕ)) (command : Command) (read : Vec (Vec ℕ Global) Global) (before failed missed : Type 0) (f0 f1 f2 : ℕ) (e : Unread)
     → now ≡ told → Kept f0 f1 → ReadsFiles told words (file_indexes command) before failed (Ok read) → ReadsOwn now words command (Rose f1 f2) (Err e)
     → ReadsAll told words command missed (Rose f0 f2) (Err e)
-stopped_at_cache told now words command read before failed missed f0 f1 f2 e same kept (met, under, contents) (cache, is, reads) =
-    let all : CallMet = record { files = met; cache = cache } in (
+stopped_at_cache told now words command read before failed missed f0 f1 f2 e same kept (met, under, files_are) (cache, is, reads) =
+    let all : CallMet = record { files = met; cache = cache; proof = None } in (
       all,
-      record { files = under; cache = subst (λ (t : Option Held). IsCacheUnder t (command_cache words command) cache) same is },
+      record { files = under; cache = subst (λ (t : Option Held). IsCacheUnder t (command_cache words command) cache) same is; proof = none_met (contents met) },
       cache_stop words command all missed f0 f1 f2 e kept reads,
     )
 
@@ -80,10 +81,10 @@ stopped_at_cache told now words command read before failed missed f0 f1 f2 e sam
 pub all_read : (told now : Option Held) (words : List (List ℕ)) (command : Command) (read : Vec (Vec ℕ Global) Global) (cache : Read) (a b c missed failed : Type 0) → now ≡ told
     → ReadsFiles told words (file_indexes command) a b (Ok read) → ReadsOwn now words command c (Ok cache)
     → ReadsAll told words command missed failed (Ok (record { files = read; cache = cache }))
-all_read told now words command read cache a b c missed failed same (met, under, contents) (own, is, reads) = (
-  record { files = met; cache = own },
-  record { files = under; cache = subst (λ (t : Option Held). IsCacheUnder t (command_cache words command) own) same is },
-  (contents, reads),
+all_read told now words command read cache a b c missed failed same (met, under, files_are) (own, is, reads) = (
+  record { files = met; cache = own; proof = None },
+  record { files = under; cache = subst (λ (t : Option Held). IsCacheUnder t (command_cache words command) own) same is; proof = none_met (contents met) },
+  (files_are, reads),
 )
 
 -- ---- what was read

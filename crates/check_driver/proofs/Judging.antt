@@ -1,10 +1,14 @@
 -- A cache, as units are judged one after another.
-use Rattle.std.proofs.Common.{◌≡◌, ℕ, Bool, true, false, List, [], ◌∷◌, ◌++◌, Option, Some, None, is_some, Result, refl, sym, ap, subst, ◌∙◌, append-nil}
-use Rattle.result_cache.specs.Entries.{Entry}
-use Rattle.unit_verdicts.specs.Asked.{Asks, AsksFront, distinct, unseen, without_entry}
+use Rattle.std.proofs.Common.{◌≡◌, ◌||◌, ℕ, Bool, true, false, List, [], ◌∷◌, ◌++◌, Option, Some, None, is_some, Result, refl, sym, ap, subst, ◌∙◌, append-nil}
+use Rattle.unit_verdicts.specs.Asked.{Asks, AsksFront, asked_from, distinct, unseen, without_entry}
 use Rattle.unit_verdicts.specs.VerdictCache.{CachedUnits}
+use Rattle.unit_verdicts.specs.declared.source.Source.{Source}
+use Rattle.unit_verdicts.specs.declared.source.Source.TheVariants.{Cache as OfCache, Proof as OfProof}
+use Rattle.unit_verdicts.proofs.Asking.{asks_none}
 use Rattle.unit_verdicts.proofs.Unseen.{asked_then, asks_then, front_first, front_then, judged_then}
+use Rattle.proof_files.specs.Proofs.{Entry as ProofEntry}
 use Rattle.command_words.specs.declared.check_words.CheckWords.{CheckWords}
+use Rattle.result_cache.specs.Entries.{Entry}
 use Rattle.check_driver.specs.Asked.{asked_for, begun_units, with_judged}
 use Rattle.check_driver.specs.CacheMet.{cache_entries}
 
@@ -24,18 +28,21 @@ pub same_units : (a b : CachedUnits) → a.show ≡ b.show → a.keeps ≡ b.kee
 same_units a b show keeps held its =
     ap (λ (s : Bool). record { show = s; keeps = a.keeps; held = a.held; keys = a.keys }) show
     ∙ ap (λ (k : Bool). record { show = b.show; keeps = k; held = a.held; keys = a.keys }) keeps
-    ∙ ap (λ (h : List Entry). record { show = b.show; keeps = b.keeps; held = h; keys = a.keys }) held
+    ∙ ap (λ (h : Source). record { show = b.show; keeps = b.keeps; held = h; keys = a.keys }) held
     ∙ ap (with_keys b) its
 
 -- The cache of a check before its first unit.
-pub begun_none : (check : CheckWords) (met : Option (List ℕ)) (cache : CachedUnits) → met ≡ None → None ≡ check.cache → cache.show ≡ is_some check.show → cache.keeps ≡ false
-    → cache.held ≡ [] → cache.keys ≡ [] → cache ≡ begun_units check met
-begun_none check met cache none without show keeps held its =
-    same_units cache (begun_units check met) show (keeps ∙ ap is_some without) (held ∙ ap cache_entries (sym none)) its
+pub begun_over : (check : CheckWords) (met : Option (List ℕ)) (entries : List Entry) (cache : CachedUnits) → cache.show ≡ is_some check.show
+    → cache.keeps ≡ (is_some check.cache || is_some check.proof) → cache.held ≡ OfCache entries → entries ≡ cache_entries met → cache.keys ≡ [] → cache ≡ begun_units check met
+begun_over check met entries cache show keeps held are its = same_units cache (begun_units check met) show keeps (held ∙ ap OfCache are) its
 
-pub begun_over : (check : CheckWords) (met : Option (List ℕ)) (index : ℕ) (cache : CachedUnits) → Some index ≡ check.cache → cache.show ≡ is_some check.show → cache.keeps ≡ true
-    → cache.held ≡ cache_entries met → cache.keys ≡ [] → cache ≡ begun_units check met
-begun_over check met index cache named show keeps held its = same_units cache (begun_units check met) show (keeps ∙ ap is_some named) held its
+-- Of no unit nothing is asked.
+none_asked : (held : Source) → asked_from held [] ≡ []
+none_asked (OfCache entries) = refl
+none_asked (OfProof entries) = refl
+
+pub asks_for_none : {X E : Type 0} (cache : CachedUnits) (r : Result X E) (old new : Keys) → new ≡ old → Asks (asked_for cache []) r old new
+asks_for_none cache r old new same = subst (λ (keys : Keys). Asks keys r old new) (sym (none_asked cache.held)) (asks_none r old new same)
 
 module _ (old mid : CachedUnits) (first : Keys) (is : mid ≡ with_judged old first) where
   keys_are : mid.keys ≡ old.keys ++ unseen old.keys first
@@ -79,9 +86,9 @@ front_of_first cache first later before new front = front_first cache.held cache
 
 -- No unit was judged, and there is no cache file.
 abbrev pub alone : Bool → CachedUnits
-alone show = record { show = show; keeps = false; held = []; keys = [] }
+alone show = record { show = show; keeps = false; held = OfCache []; keys = [] }
 
-pub alone_units : (cache : CachedUnits) (show : Bool) → cache.show ≡ show → cache.keeps ≡ false → cache.held ≡ [] → cache.keys ≡ [] → cache ≡ alone show
+pub alone_units : (cache : CachedUnits) (show : Bool) → cache.show ≡ show → cache.keeps ≡ false → cache.held ≡ OfCache [] → cache.keys ≡ [] → cache ≡ alone show
 alone_units cache show shows keeps held keys = same_units cache (alone show) shows keeps held keys
 
 -- All keys are without an entry.
@@ -94,3 +101,15 @@ pub asks_alone : {X E : Type 0} (cache : CachedUnits) (show : Bool) (keys : Keys
     → Asks (distinct keys) r old new
 asks_alone cache show keys r old new is asks =
     subst (λ (l : Keys). Asks l r old new) (ap (λ (c : CachedUnits). asked_for c keys) is ∙ without_none (distinct keys)) asks
+
+-- ---- a proof file
+
+-- Over the entries of a proof file nothing is asked.
+pub asks_by_proof : {X E : Type 0} (cache : CachedUnits) (entries : List ProofEntry) (keys : Keys) (r : Result X E) (old new : Keys) → cache.held ≡ OfProof entries
+    → Asks (asked_for cache keys) r old new → new ≡ old
+asks_by_proof cache entries keys r old new is asks =
+    by (subst (λ (l : Keys). AsksFront l old new) (ap (λ (held : Source). asked_from held (unseen cache.keys keys)) is) asks.front)
+  where
+    by : AsksFront [] old new → new ≡ old
+    by ([], (rest, whole), is) = is ∙ append-nil old
+    by (key ∷ front, (rest, whole), is) = absurd cc

@@ -20,15 +20,15 @@ same_appended old new front before text adds was is =
 -- What is met is the file of a command that has one.
 pub file_asked : (words : List (List ℕ)) (command : Command) (file : ℕ) (held : Held) (bytes : List ℕ) (met : CallMet) → file_indexes command ≡ file ∷ []
     → held (word_at words file) ≡ Some bytes → command_of words ≡ Some command → AreUnder (Some held) (words_at words (file ∷ [])) met.files
-    → expected words met ≡ bytes_answer command words met.cache (bytes ∷ [])
+    → expected words met ≡ bytes_answer command words met.cache met.proof (bytes ∷ [])
 file_asked words command file held bytes met one at asked under = by met.files under
   where
     by : (files : List (Option (List ℕ))) → AreUnder (Some held) (words_at words (file ∷ [])) files
-        → expected words (record { files = files; cache = met.cache }) ≡ bytes_answer command words met.cache (bytes ∷ [])
+        → expected words (record { files = files; cache = met.cache; proof = met.proof }) ≡ bytes_answer command words met.cache met.proof (bytes ∷ [])
     by (under ∷ []) (is, last) =
         let met_is : under ≡ Some bytes = sym (is held refl) ∙ at in
-        ap (command_answer words (record { files = under ∷ []; cache = met.cache })) asked
-        ∙ ap (λ (u : Option (List ℕ)). files_answer command words (record { files = u ∷ []; cache = met.cache })) met_is
-        ∙ ap (λ (indexes : List ℕ). missing_or (first_missing (words_at words indexes) (Some bytes ∷ [])) (bytes_answer command words met.cache (bytes ∷ []))) one
+        ap (command_answer words (record { files = under ∷ []; cache = met.cache; proof = met.proof })) asked
+        ∙ ap (λ (u : Option (List ℕ)). files_answer command words (record { files = u ∷ []; cache = met.cache; proof = met.proof })) met_is
+        ∙ ap (λ (indexes : List ℕ). missing_or (first_missing (words_at words indexes) (Some bytes ∷ [])) (bytes_answer command words met.cache met.proof (bytes ∷ []))) one
     by [] h = absurd h
     by (under ∷ other ∷ files) h = absurd h.1

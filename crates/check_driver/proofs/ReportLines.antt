@@ -6,7 +6,7 @@ use Rattle.std.proofs.lemmas.List.Concat.{flat_map-append}
 use Rattle.asm_image.specs.Rows.{methods_of}
 use Rattle.asm_image.specs.declared.method_row.MethodRow.{MethodRow}
 use Rattle.unit_builder.specs.Outcomes.{entries_of, entry_of}
-use Rattle.check_driver.specs.CheckText.{all_counts, all_methods_proved, all_shown, assembly_line, check_text, entry_lines, outcome_finding, finding_lines, findings, found_counts, is_proved, outcome_shown}
+use Rattle.check_driver.specs.CheckText.{all_counts, all_methods_proved, all_shown, assembly_line, check_text, entry_lines, outcome_finding, finding_lines, findings, found_counts, is_proved, outcome_shown, report_text}
 use Rattle.answer_lines.specs.Lines.{summary_line}
 use Rattle.answer_lines.specs.Writing.{joined}
 use Rattle.check_driver.specs.Findings.{shown_in, finding_in, found_lines}
@@ -41,7 +41,7 @@ pub report_of : (name asm : List ℕ) (manner : Manner) (found : List Found) (fi
     → first ≡ [] ++ line ∷ [] → joined lines ≡ joined first ++ flat_map found_lines (zip methods found) → all ≡ lines ++ last ∷ []
     → line.items ≡ assembly_line name → methods ≡ methods_of asm → last.items ≡ summary_line counts → counts ≡ found_counts (map finding_in found) → map finding_in found ≡ findings manner.pick (entries_of asm)
     → map shown_in found ≡ all_shown manner (entries_of asm) → joined all ≡ check_text name manner asm
-unfolding check_text
+unfolding report_text
 report_of name asm manner found first lines all line last methods counts first_is lines_are all_are line_is methods_are last_is counted same shown =
     let front : joined first ≡ assembly_line name = ap joined first_is ∙ append-nil line.items ∙ line_is in
     let middle : joined lines ≡ assembly_line name ++ flat_map (entry_lines manner) (entries_of asm) =

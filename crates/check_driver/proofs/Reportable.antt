@@ -7,12 +7,11 @@ use Rattle.std.proofs.lemmas.Option.{same_Some}
 use Rattle.asm_image.specs.Faults.{FirstBroken}
 use Rattle.cc_base.specs.Files.{Held, READ_LIMIT}
 use Rattle.cc_base.specs.Sink.{AppendsFront}
-use Rattle.check_driver.specs.Checked.{AreBegun, AreHeldBegun, IfCheck, IsReportable, held_files, report_of}
-use Rattle.check_driver.specs.Expected.{check_manner}
+use Rattle.check_driver.specs.Checked.{AreBegun, AreHeldBegun, IfReports, IsReportable, held_files, report_of}
 use Rattle.unit_verdicts.specs.Picks.{Manner, limit_manner}
 use Rattle.check_driver.specs.Met.{AreContents, AreUnder, IsContent, bytes_read}
 use Rattle.check_driver.proofs.SeveralFiles.{begun_none}
-use Rattle.command_words.specs.Words.{check_files, file_indexes, words_at}
+use Rattle.command_words.specs.Words.{check_files, checked_indexes, file_indexes, word_at, words_at}
 use Rattle.command_words.specs.declared.command.Command.{Command}
 use Rattle.command_words.specs.declared.command.Command.TheVariants as commands
 use Rattle.assembly_answers.proofs.CutFiles.{large_first}
@@ -67,26 +66,43 @@ held_begun told manner names met read old new under contents begun = λ held tol
       },
     )
 
--- The reports of a check's files were begun as far as was written, told of what is held.
+-- The reports of a command's assemblies were begun as far as was written, told of what is held.
 abbrev HeldBegun : Option Held → List (List ℕ) → Option (List ℕ) → Option (List ℕ) → Command → Type 0
-HeldBegun told words old new command = IfCheck command (λ check. AreHeldBegun told (words_at words (check_files check)) old new)
+HeldBegun told words old new command = IfReports command (AreHeldBegun told (words_at words (checked_indexes command)) old new)
 
-pub held_checked : (told : Option Held) (command : Command) (words : List (List ℕ)) (met : List (Option (List ℕ))) (read : List (Vec ℕ Global)) (cache : Option (List ℕ)) (old new : Option (List ℕ))
-    → AreUnder told (words_at words (file_indexes command)) met → AreContents met read
-    → IfCheck command (λ check. AreBegun (check_manner check cache) (zip (words_at words (file_indexes command)) (bytes_read read)) old new) → HeldBegun told words old new command
-held_checked told (commands.Check check) words met read cache old new under contents begun =
-    held_begun told (check_manner check cache) (words_at words (check_files check)) met read old new under contents begun
-held_checked told (commands.Unit file) words met read cache old new under contents begun = tt
-held_checked told (commands.List file) words met read cache old new under contents begun = tt
-held_checked told (commands.Il file method) words met read cache old new under contents begun = tt
-held_checked told (commands.Run run) words met read cache old new under contents begun = tt
-held_checked told (commands.Refute file method runs) words met read cache old new under contents begun = tt
-held_checked told (commands.Gen seed count) words met read cache old new under contents begun = tt
+-- The same of what was read of them.
+abbrev ReadBegun : List (List ℕ) → List (Vec ℕ Global) → Option (List ℕ) → Option (List ℕ) → Command → Type 0
+ReadBegun words read old new command =
+    IfReports command ((manner : Manner) × AreBegun manner (zip (words_at words (checked_indexes command)) (bytes_read read)) old new)
+
+-- The assembly that is verified is the first of two files.
+verified_begun : (told : Option Held) (name by : List ℕ) (met : List (Option (List ℕ))) (read : List (Vec ℕ Global)) (manner : Manner) (old new : Option (List ℕ))
+    → AreUnder told (name ∷ by ∷ []) met → AreContents met read → AreBegun manner (zip (name ∷ []) (bytes_read read)) old new → AreHeldBegun told (name ∷ []) old new
+verified_begun told name by (under ∷ met) (bytes ∷ read) manner old new is contents begun =
+    held_begun told manner (name ∷ []) (under ∷ []) (bytes ∷ []) old new (is.0, tt) (contents.0, tt) begun
+verified_begun told name by [] read manner old new is contents begun = absurd is
+verified_begun told name by (under ∷ met) [] manner old new is contents begun = absurd contents
+
+pub held_checked : (told : Option Held) (command : Command) (words : List (List ℕ)) (met : List (Option (List ℕ))) (read : List (Vec ℕ Global)) (old new : Option (List ℕ))
+    → AreUnder told (words_at words (file_indexes command)) met → AreContents met read → ReadBegun words read old new command → HeldBegun told words old new command
+held_checked told (commands.Check check) words met read old new under contents (manner, begun) =
+    held_begun told manner (words_at words (check_files check)) met read old new under contents begun
+held_checked told (commands.Verify file proof) words met read old new under contents (manner, begun) =
+    verified_begun told (word_at words file) (word_at words proof) met read manner old new under contents begun
+held_checked told (commands.Unit file) words met read old new under contents begun = tt
+held_checked told (commands.List file) words met read old new under contents begun = tt
+held_checked told (commands.Il file method) words met read old new under contents begun = tt
+held_checked told (commands.Run run) words met read old new under contents begun = tt
+held_checked told (commands.Refute file method runs) words met read old new under contents begun = tt
+held_checked told (commands.Gen seed count) words met read old new under contents begun = tt
+
+nothing_begun : (told : Option Held) (names : List (List ℕ)) (old : Option (List ℕ)) → AreHeldBegun told names old old
+nothing_begun told names old = λ held told_is. (limit_manner false, begun_none (limit_manner false) (held_files held names) old old refl)
 
 -- None was begun where nothing was written.
 pub none_begun : (told : Option Held) (command : Command) (words : List (List ℕ)) (old : Option (List ℕ)) → HeldBegun told words old old command
-none_begun told (commands.Check check) words old =
-    λ held told_is. (limit_manner false, begun_none (limit_manner false) (held_files held (words_at words (check_files check))) old old refl)
+none_begun told (commands.Check check) words old = nothing_begun told (words_at words (check_files check)) old
+none_begun told (commands.Verify file proof) words old = nothing_begun told (words_at words (file ∷ [])) old
 none_begun told (commands.Unit file) words old = tt
 none_begun told (commands.List file) words old = tt
 none_begun told (commands.Il file method) words old = tt

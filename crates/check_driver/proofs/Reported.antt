@@ -8,7 +8,7 @@ use Rattle.cil_model.specs.declared.unit.CalleeInfo.{CalleeInfo}
 use Rattle.unit_builder.specs.Outcomes.{entries_of}
 use Rattle.unit_builder.specs.declared.entry.MethodEntry.{MethodEntry}
 use Rattle.unit_builder.specs.declared.entry.Outcome.{Outcome}
-use Rattle.check_driver.specs.CheckText.{Finding, WithVerdicts, NotAnalysed, all_counts, assembly_line, check_text, entry_lines, outcome_finding, finding_lines, method_line, outcome_shown, verdict_lines, verdict_text}
+use Rattle.check_driver.specs.CheckText.{Finding, WithVerdicts, NotAnalysed, all_counts, assembly_line, check_text, entry_lines, outcome_finding, finding_lines, method_line, outcome_shown, report_text, verdict_lines, verdict_text}
 use Rattle.answer_lines.specs.FaultKinds.{kind_text}
 use Rattle.answer_lines.specs.Lines.{summary_line}
 use Rattle.check_driver.specs.ReportText.{callee_of, verdict_line}
@@ -91,7 +91,7 @@ lines_and_last before last line text is_line are_lines =
     lines_behind before (last ∷ []) ∙ ap (λ (l : List ℕ). as_lines before ++ l) (append-nil (as_line last)) ∙ rw (is_line, are_lines) refl
 
 pub report_is_lines : (name : List ℕ) (manner : Manner) (bytes : List ℕ) → as_lines (report_said name manner bytes) ≡ check_text name manner bytes
-unfolding report_said check_text
+unfolding report_said report_text
 report_is_lines name manner bytes =
     let entries = entries_of bytes in
     let counts = all_counts manner.pick entries in

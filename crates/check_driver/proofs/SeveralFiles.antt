@@ -23,7 +23,8 @@ use Rattle.unit_builder.specs.Outcomes.{entries_of}
 use Rattle.check_driver.specs.Asked.{asked_for, check_keys, judged_keys, keys_before}
 use Rattle.check_driver.specs.CheckText.{all_methods_proved, check_text}
 use Rattle.check_driver.specs.Expected.{check_answer, checked_before}
-use Rattle.check_driver.specs.Checked.{AreBegun, IsReportable, report_of}
+use Rattle.check_driver.specs.Checked.{AreBegun, AreRunnable, IsReportable, report_of}
+use Rattle.check_driver.specs.Known.{AreAllRunnable, RunnableBefore}
 use Rattle.check_driver.specs.Met.{bytes_read}
 use Rattle.check_driver.specs.NothingOr.{NothingOr}
 use Rattle.unit_verdicts.specs.Asked.{Asks}
@@ -139,6 +140,9 @@ pub no_file : (read : List (Vec ℕ Global)) → length read < 1 → bytes_read 
 no_file [] none = refl
 no_file (bytes ∷ read) none = absurd (omega (arith, none))
 
+pub no_runnable : (read : List (Vec ℕ Global)) → length read < 1 → AreAllRunnable (bytes_read read)
+no_runnable read none = subst AreAllRunnable (sym (no_file read none)) tt
+
 -- Where no word names a file, the answer is that for none.
 pub no_answer : (manner : Manner) (words : List (List ℕ)) (indexes : List ℕ) (files : List (List ℕ)) → length indexes < 1 → check_answer manner (words_at words indexes) files ≡ output_answer 0 []
 no_answer manner words [] files none = refl
@@ -193,6 +197,18 @@ module _ (manner : Manner) (words : List (List ℕ)) (indexes : List ℕ) (read 
 
   pub no_keys : (fault : AsmFault) → FirstBroken file ≡ Some fault → check_keys (bytes_read read) ≡ []
   no_keys fault first = keys_are (Some fault) first
+
+  -- The units of this file can be run, and those of the files after it; or it is refused.
+  runnable_is : (fault : Option AsmFault) → FirstBroken file ≡ fault → RunnableBefore file fault (AreAllRunnable (bytes_read (rest_of read))) → AreAllRunnable (bytes_read read)
+  runnable_is fault first known =
+      subst AreAllRunnable (sym is.bytes)
+      (subst (λ (found : Option AsmFault). RunnableBefore file found (AreAllRunnable (bytes_read (rest_of read)))) (sym first) known)
+
+  pub runnable_of_first : FirstBroken file ≡ None → AreRunnable file → AreAllRunnable (bytes_read (rest_of read)) → AreAllRunnable (bytes_read read)
+  runnable_of_first accepted own later = runnable_is None accepted (own, later)
+
+  pub runnable_refused : (fault : AsmFault) → FirstBroken file ≡ Some fault → AreAllRunnable (bytes_read read)
+  runnable_refused fault first = runnable_is (Some fault) first tt
 
   -- What was begun of this file and of those after it was begun of all.
   pub begun_of_first : (old new : Option (List ℕ)) → AreBegun manner ((name, file) ∷ zip (words_at words (rest_of indexes)) (bytes_read (rest_of read))) old new

@@ -1,5 +1,5 @@
 -- Which units a call asks its finder for. A unit is told by the bytes of its file.
-use Rattle.std.specs.Prelude.{◌≡◌, ◌≢◌, ℕ, List, [], ◌∷◌, ◌++◌, length, Option, Some, None, is_some, Result, IfOk, nat_le, if◌then◌else◌}
+use Rattle.std.specs.Prelude.{◌≡◌, ◌≢◌, ◌||◌, ℕ, List, [], ◌∷◌, ◌++◌, length, Option, Some, None, is_some, Result, IfOk, nat_le, if◌then◌else◌}
 use Rattle.std.specs.List.{flat_map}
 use Rattle.asm_image.specs.Faults.{FirstBroken}
 use Rattle.asm_image.specs.declared.fault.AsmFault.{AsmFault}
@@ -16,8 +16,9 @@ use Rattle.check_driver.specs.Expected.{file_at}
 use Rattle.check_driver.specs.Met.{contents, first_missing}
 use Rattle.check_driver.specs.CacheMet.{CallMet, cache_entries}
 use Rattle.result_cache.specs.Entries.{Entry}
-use Rattle.unit_verdicts.specs.Asked.{AsksFront, distinct, unseen, without_entry}
+use Rattle.unit_verdicts.specs.Asked.{AsksFront, asked_from, distinct, unseen, without_entry}
 use Rattle.unit_verdicts.specs.VerdictCache.{CachedUnits}
+use Rattle.unit_verdicts.specs.declared.source.Source.TheVariants.{Cache as OfCache}
 use Rattle.command_words.specs.Words.{command_of, file_indexes, words_at}
 use Rattle.command_words.specs.declared.check_words.CheckWords.{CheckWords}
 use Rattle.command_words.specs.declared.command.Command.{Command}
@@ -73,18 +74,19 @@ with_judged cache keys = record {
   keys = cache.keys ++ unseen cache.keys keys;
 }
 
--- The cache of a check, of which no unit was judged yet, where this is met under the name of its cache.
+-- The cache of a check, of which no unit was judged yet, where this is met under the name of its cache. Invariants are
+-- kept where a cache or a proof file is to be left.
 abbrev pub begun_units : CheckWords → Option (List ℕ) → CachedUnits
 begun_units check cache = record {
   show = is_some check.show;
-  keeps = is_some check.cache;
-  held = cache_entries cache;
+  keeps = is_some check.cache || is_some check.proof;
+  held = OfCache (cache_entries cache);
   keys = [];
 }
 
 -- What a finder is asked for as these units are judged.
 abbrev pub asked_for : CachedUnits → List (List ℕ) → List (List ℕ)
-asked_for cache keys = without_entry cache.held (unseen cache.keys keys)
+asked_for cache keys = asked_from cache.held (unseen cache.keys keys)
 
 -- ---- commands
 
@@ -93,6 +95,7 @@ abbrev pub bytes_asked : Command → Option (List ℕ) → List (List ℕ) → L
 bytes_asked (commands.Unit file) cache files = unit_file_asked (file_at files 0)
 bytes_asked (commands.Check check) cache files = check_asked (cache_entries cache) files
 bytes_asked (commands.Gen seed count) cache files = units_asked (generated_file seed count)
+bytes_asked (commands.Verify file proof) cache files = []
 bytes_asked (commands.List file) cache files = []
 bytes_asked (commands.Il file method) cache files = []
 bytes_asked (commands.Run run) cache files = []

@@ -8,7 +8,7 @@ use Rattle.check_driver.specs.declared.inputs.CallFiles.{CallFiles}
 use Rattle.check_driver.specs.declared.inputs.Inputs.{Inputs}
 use Rattle.check_driver.specs.declared.reading.Unread.{Unread}
 use Rattle.check_driver.specs.declared.reading.Unread.TheVariants as unread
-use Rattle.command_words.specs.Words.{cache_index, file_indexes, used_indexes, word_at, words_at, words_bytes}
+use Rattle.command_words.specs.Words.{cache_index, file_indexes, proof_index, used_indexes, word_at, words_at, words_bytes}
 use Rattle.command_words.specs.declared.command.Command.{Command}
 
 -- The bytes that were read of a cache.
@@ -25,12 +25,13 @@ files_of given = bytes_read given.read.now
 abbrev pub cache_of : CallFiles → Option (List ℕ)
 cache_of given = cache_bytes given.cache.now
 
--- What was read is what a command of these words asks for: the words name its files and its cache, and as many were
--- read.
+-- What was read is what a command of these words asks for: the words name its files, its cache and the proof file that it
+-- leaves, and as many files were read.
 pub record IsCalled (command : Command) (given : CallFiles) : Type 0 where
   pub used : All (λ index. index < length given.words.now) (used_indexes command)
   pub files : All (λ index. index < length given.words.now) (file_indexes command)
   pub cache : IfSome (cache_index command) (λ index. index < length given.words.now)
+  pub proof : IfSome (proof_index command) (λ index. index < length given.words.now)
   pub indexes : given.indexes.now ≡ file_indexes command
   pub each : length given.read.now ≡ length (file_indexes command)
   pub none : cache_index command ≡ None → cache_of given ≡ None

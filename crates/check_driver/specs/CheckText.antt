@@ -96,10 +96,14 @@ assembly_line name = codes "assembly " ++ escaped name ++ codes "\n"
 abbrev pub summary_text : Pick → List ℕ → List ℕ
 summary_text pick bytes = summary_line (all_counts pick (entries_of bytes))
 
--- The report of that assembly, made in this manner.
-unfoldable pub check_text : List ℕ → Manner → List ℕ → List ℕ
-check_text name manner bytes =
-    assembly_line name ++ flat_map (entry_lines manner) (entries_of bytes) ++ summary_text manner.pick bytes
+-- The report of a file of this name that has these methods, made in this manner.
+unfoldable pub report_text : List ℕ → Manner → List MethodEntry → List ℕ
+report_text name manner entries =
+    assembly_line name ++ flat_map (entry_lines manner) entries ++ summary_line (all_counts manner.pick entries)
+
+-- The report of the assembly with these bytes.
+abbrev pub check_text : List ℕ → Manner → List ℕ → List ℕ
+check_text name manner bytes = report_text name manner (entries_of bytes)
 
 -- Each method of it is proved.
 abbrev pub all_methods_proved : Pick → List ℕ → Bool

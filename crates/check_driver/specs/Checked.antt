@@ -52,6 +52,12 @@ abbrev pub AreHeldBegun : Option Held → List (List ℕ) → Option (List ℕ) 
 AreHeldBegun told names old new =
     (held : Held) → told ≡ Some held → (manner : Manner) × AreBegun manner (held_files held names) old new
 
+-- This holds where the command makes the reports of assemblies.
+abbrev pub IfReports : Command → Type 0 → Type 0
+IfReports (commands.Check check) P = P
+IfReports (commands.Verify file proof) P = P
+IfReports _ P = Unit {0}
+
 -- This holds of the words of a check, where the command is one.
 abbrev pub IfCheck : Command → (CheckWords → Type 0) → Type 0
 IfCheck (commands.Check check) P = P check

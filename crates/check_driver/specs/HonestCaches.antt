@@ -1,10 +1,9 @@
 -- What an honest cache gives: the reports that are made without it, and an honest cache again.
-use Rattle.std.specs.Prelude.{◌≡◌, ◌≢◌, ◌⊎◌, ℕ, List, Option, Some, None, is_some, Result, IfOk}
-use Rattle.cc_base.specs.Files.{Held, ToldReplaced}
+use Rattle.std.specs.Prelude.{◌≡◌, ◌≢◌, ◌⊎◌, ℕ, List, Option, Some, None, is_some}
+use Rattle.cc_base.specs.Files.{Held}
 use Rattle.answer_lines.specs.Answers.{Answer}
 use Rattle.answer_lines.specs.Outcome.{WritesAll}
 use Rattle.answer_lines.specs.Writing.{Change}
-use Rattle.answer_lines.specs.declared.interrupt.Interrupt.{Interrupt}
 use Rattle.check_driver.specs.CacheMet.{cache_entries}
 use Rattle.command_words.specs.Words.{check_files, command_of, words_at}
 use Rattle.command_words.specs.declared.check_words.CheckWords.{CheckWords}
@@ -38,19 +37,17 @@ pub record AreAlike (answer other : Answer) : Type 0 where
   pub out : answer.out ≡ other.out
   pub status : answer.status ≡ other.status
 
--- Where the entries are honest, an answer that came is the other one, unless a file was not read.
-abbrev pub AlikeWhereHonest : List Entry → Answer → Answer → Result ℕ Interrupt → Type 0
-AlikeWhereHonest entries answer other result =
-    AreHonest entries → IfOk result (λ status. status ≢ 4 → AreAlike answer other)
+-- This is a file of honest entries.
+abbrev pub HoldsHonest : Option (List ℕ) → Type 0
+HoldsHonest under = (bytes : List ℕ) × (under ≡ Some bytes) × IsHonestFile bytes
 
--- The files have a file of honest entries under this name, and are otherwise as before.
-pub record IsLeftHonest (name : List ℕ) (old new : Option Held) : Type 0 where
-  pub bytes : List ℕ
-  pub replaced : ToldReplaced old new name bytes
-  pub honest : IsHonestFile bytes
+-- Under this name the files, where they are told, have what they had, or a file of honest entries.
+abbrev pub KeepsHonest : List ℕ → Option Held → Option Held → Type 0
+KeepsHonest name old new =
+    (held after : Held) → old ≡ Some held → new ≡ Some after → (after name ≡ held name) ⊎ HoldsHonest (after name)
 
--- Where these entries of the cache of this name, if there is one, are honest, the files are as before, or hold a file
--- of honest entries under that name.
-abbrev pub HonestWhereHonest : Option (List ℕ) → List Entry → Option Held → Option Held → Type 0
-HonestWhereHonest None entries old new = new ≡ old
-HonestWhereHonest (Some name) entries old new = AreHonest entries → (new ≡ old) ⊎ IsLeftHonest name old new
+-- So they have under the name of a cache, if there is one, where these entries of it are honest and the proof file that is
+-- left has another name.
+abbrev pub HonestWhereHonest : Option (List ℕ) → Option (List ℕ) → List Entry → Option Held → Option Held → Type 0
+HonestWhereHonest None proof entries old new = Unit {0}
+HonestWhereHonest (Some name) proof entries old new = AreHonest entries → proof ≢ Some name → KeepsHonest name old new

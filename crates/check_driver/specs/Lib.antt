@@ -1,5 +1,7 @@
 pub mod Met
 pub mod CacheText
+pub mod ProofText
+pub mod ProofMet
 pub mod CacheMet
 pub mod CallRead
 pub mod ReportText
@@ -7,9 +9,12 @@ pub mod CheckText
 pub mod Findings
 pub mod Expected
 pub mod Asked
-pub mod CacheLeft
+pub mod FilesLeft
+pub mod BytesAnswered
 pub mod HonestCaches
+pub mod Confirmed
 pub mod Checked
+pub mod Known
 pub mod Sections
 pub mod Headline
 pub mod ProvedUnit

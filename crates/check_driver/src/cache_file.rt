@@ -1,19 +1,11 @@
-//! The file of a cache: the words for its faults, and how it is replaced.
+//! The words for the faults of a cache.
 
-#![tactic(auto, using(cc_base::proofs::CountLemmas::counts))]
-
-ghost use Rattle.std.specs.Prelude.{◌≡◌, ◌<◌, ◌⊎◌, ◌++◌, IfOk, IsErrOf, OnErr, OnOk, length};
+ghost use Rattle.std.specs.Prelude.{◌≡◌, ◌++◌, IfOk};
 ghost use Rattle.answer_lines.specs.LineCounts.{line_count};
-ghost use Rattle.answer_lines.specs.declared.interrupt.Interrupt.TheVariants.{CannotWrite as Unwritten, NoMemory};
-ghost use Rattle.cc_base.specs.Counts.{Rose, Kept};
 ghost use Rattle.cc_base.specs.Digits.{hex};
-ghost use Rattle.cc_base.specs.Files.{ToldReplaced};
 ghost use Rattle.check_driver.specs.CacheText.{cache_fault_text};
-ghost use Rattle.command_words.specs.Words.{word_at, words_bytes};
 
-use answer_lines::Interrupt;
-use cc_base::{Files, put_hex};
-use command_words::word_at;
+use cc_base::put_hex;
 use result_cache::CacheFault;
 use std::alloc::{AllocError, Global};
 
@@ -44,29 +36,4 @@ pub fn cache_fault_text(alloc: Global, fault: CacheFault) -> Result<Vec<u8>, All
     ensures plain { IfOk result (λ text. line_count text.items ≡ 0) }
 {
     fault_text(alloc, fault)
-}
-
-/// Puts these bytes into the cache that the word at an index names, in place of what it held.
-///
-/// # Errors
-///
-/// Want of memory, and then nothing changed; or a device refused, before or after the cache was replaced.
-pub fn replace_cache<F: Files>(
-    alloc: Global,
-    words: &[String],
-    index: u32,
-    bytes: &[u8],
-    files: &mut F,
-) -> Result<(), Interrupt>
-    requires { index < length words.now }
-    ensures ok { OnOk result (ToldReplaced (F.held files.old) (F.held files.new) (word_at (words_bytes words.now) index) bytes.now) }
-    ensures err { OnErr result ((F.held files.new ≡ F.held files.old)
-        ⊎ ToldReplaced (F.held files.old) (F.held files.new) (word_at (words_bytes words.now) index) bytes.now) }
-    ensures cause { IsErrOf result Unwritten → Rose (F.faults files.old) (F.faults files.new) }
-    ensures no_memory { IsErrOf result NoMemory → F.held files.new ≡ F.held files.old }
-    ensures missed_kept { Kept (F.missed files.old) (F.missed files.new) }
-    ensures faults_kept { Kept (F.faults files.old) (F.faults files.new) }
-{
-    files.replace(alloc, word_at(words, index), bytes)?;
-    Ok(())
 }

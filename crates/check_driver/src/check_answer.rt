@@ -1,45 +1,46 @@
-//! The answer to `check FILE..`, with `--show` or without, with a cache or without.
+//! The answer to `check FILE..`, with `--show` or without, with a cache and a proof file or without.
 
 #![tactic(auto, using(cc_base::proofs::SinkLemmas::sinks, cc_base::proofs::CountLemmas::counts, answer_lines::proofs::LineLemmas::puts_none))]
 
-ghost use Rattle.std.specs.Prelude.{◌≡◌, ◌⊎◌, ◌<◌, All, IfOk, IfSome, IsErrOf, None, OnErr, OnOk, [], if◌then◌else◌, is_some, length, nat_le, zip};
+ghost use Rattle.std.specs.Prelude.{◌≡◌, ◌<◌, ◌||◌, All, IfOk, IfSome, None, OnOk, Some, [], if◌then◌else◌, is_some, length, zip};
 ghost use Rattle.std.specs.List.{AllByRecursion};
-ghost use Rattle.cc_base.specs.Counts.{Kept, Rose};
+ghost use Rattle.cc_base.specs.Counts.{Rose};
 ghost use Rattle.answer_lines.specs.Outcome.{Gives};
 ghost use Rattle.answer_lines.specs.Writing.{Writes, change_of};
-ghost use Rattle.answer_lines.specs.declared.interrupt.Interrupt.TheVariants.{CannotWrite as Unwritten};
 ghost use Rattle.check_driver.specs.Asked.{asked_for, begun_units, bytes_asked, check_keys, judged_keys, with_judged};
-ghost use Rattle.check_driver.specs.CacheLeft.{AnswerLeaves, AreLeft, GivesOrUnreplaced, IfNamed, bytes_left, left_where};
-ghost use Rattle.check_driver.specs.CacheMet.{cache_entries, cache_refusal, command_cache};
+ghost use Rattle.check_driver.specs.CacheMet.{cache_entries, cache_refusal, command_cache, command_proof};
 ghost use Rattle.check_driver.specs.CallRead.{IsCalled, cache_of, files_of, names_of};
 ghost use Rattle.check_driver.specs.CheckText.{all_methods_proved, check_text};
 ghost use Rattle.check_driver.specs.Checked.{AreBegun, IsReportable};
 ghost use Rattle.check_driver.specs.Expected.{bytes_answer, check_answer, check_manner};
-ghost use Rattle.check_driver.specs.HonestCaches.{AlikeWhereHonest, HonestWhereHonest};
+ghost use Rattle.check_driver.specs.FilesLeft.{AnswerLeaves, GivesOrUnreplaced, IfEither, bytes_left};
+ghost use Rattle.check_driver.specs.HonestCaches.{HonestWhereHonest};
+ghost use Rattle.check_driver.specs.Known.{AreAllRunnable, KnowsCheck};
 ghost use Rattle.check_driver.specs.NothingOr.{NothingOr};
 ghost use Rattle.command_words.specs.Words.{words_bytes};
 ghost use Rattle.command_words.specs.declared.command.Command.TheVariants as commands;
+ghost use Rattle.result_cache.specs.Entries.{AreShort};
 ghost use Rattle.unit_builder.specs.Outcomes.{entries_of};
 ghost use Rattle.unit_verdicts.specs.Asked.{Asks};
-ghost use Rattle.unit_verdicts.specs.CacheFile.{AreHonest};
-ghost use Rattle.unit_verdicts.specs.Picks.{limit_manner, pick_of};
+ghost use Rattle.unit_verdicts.specs.Picks.{pick_from};
 ghost use Rattle.unit_verdicts.specs.VerdictCache.{manner_of};
 
-use crate::cache_file::replace_cache;
 use crate::check_report::report_lines;
 use crate::inputs::CallFiles;
+use crate::left_files::leave_files;
 use crate::open_cache::open_cache;
 use answer_lines::{Interrupt, answer_refused, put_lines};
 use asm_image::{AsmRefusal, Assembly};
 use assembly_answers::assembly_fault_text;
 use cc_base::{Files, Sink};
 use command_words::{CheckWords, word_at};
+use result_cache::Cache;
 use std::alloc::Global;
 use unit_verdicts::VerdictCache;
 use widening_engine::Finder;
 
-/// Answers for one of the assemblies of a check.
-fn answer_assembly<O: Sink, D: Finder>(
+/// Answers for an assembly: its report, and the status of that.
+pub fn answer_assembly<O: Sink, D: Finder>(
     alloc: Global,
     name: &[u8],
     assembly: &Assembly<'_>,
@@ -47,7 +48,7 @@ fn answer_assembly<O: Sink, D: Finder>(
     out: &mut O,
     finder: &mut D,
 ) -> Result<u8, Interrupt>
-    ensures status { IfOk result (λ status. status ≡ (if all_methods_proved (pick_of cache.old.held) assembly.now then 0 else 1)) }
+    ensures status { IfOk result (λ status. status ≡ (if all_methods_proved (pick_from cache.old.held) assembly.now then 0 else 1)) }
     ensures written { Writes result (change_of O.written O.puts O.faults out.old out.new) (check_text name.now (manner_of cache.old) assembly.now) }
     ensures known { IfOk result (λ _. IsReportable assembly.now) }
     ensures reportable { NothingOr (O.written out.old) (O.written out.new) (IsReportable assembly.now) }
@@ -78,9 +79,7 @@ fn answer_each<O: Sink, E: Sink, D: Finder>(
     ensures cache { OnOk result (cache.new ≡ with_judged cache.old (check_keys (files_of given.now))) }
     ensures asked { Asks (asked_for cache.old (check_keys (files_of given.now))) result
         (D.asked finder.old) (D.asked finder.new) }
-    ensures alike { AreHonest cache.old.held → IfOk result (λ _.
-        check_answer (manner_of cache.old) (names_of given.now) (files_of given.now)
-        ≡ check_answer (limit_manner cache.old.show) (names_of given.now) (files_of given.now)) }
+    ensures known { IfOk result (λ _. AreAllRunnable (files_of given.now)) }
 {
     let [index, indexes @ ..] = given.indexes else {
         return Ok(0);
@@ -108,6 +107,36 @@ fn answer_each<O: Sink, E: Sink, D: Finder>(
     }
 }
 
+/// The cache that a check begins with: of its cache file, if it has one. One that is refused is told.
+fn begin_cache<E: Sink>(
+    alloc: Global,
+    check: CheckWords,
+    given: &CallFiles<'_>,
+    err: &mut E,
+) -> Result<Cache, Interrupt>
+    requires named { IfSome check.cache (λ index. index < length given.now.words.now) }
+    requires none { check.cache ≡ None → cache_of given.now ≡ None }
+    ensures entries { IfOk result (λ cache. cache ≡ cache_entries (cache_of given.now)) }
+    ensures short { IfOk result AreShort }
+    ensures written { Writes result (change_of E.written E.puts E.faults err.old err.new)
+        (cache_refusal (command_cache (words_bytes given.now.words.now) (commands.Check check)) (cache_of given.now)) }
+{
+    match check.cache {
+        Some(index) => {
+            let name = word_at(given.words, index).as_bytes();
+            open_cache(alloc, name, given.cache, err)
+        }
+        None => Ok(Cache::none(alloc)),
+    }
+}
+
+/// Returns whether a check leaves a cache or a proof file.
+fn leaves_files(check: CheckWords) -> bool
+    ensures { result ≡ (is_some check.cache || is_some check.proof) }
+{
+    check.cache.is_some() || check.proof.is_some()
+}
+
 /// The verdicts of a check, of which there are none yet: over its cache, if it has one. One that is refused is told.
 fn begin_check<E: Sink>(
     alloc: Global,
@@ -121,54 +150,13 @@ fn begin_check<E: Sink>(
     ensures written { Writes result (change_of E.written E.puts E.faults err.old err.new)
         (cache_refusal (command_cache (words_bytes given.now.words.now) (commands.Check check)) (cache_of given.now)) }
 {
-    match check.cache {
-        None => Ok(VerdictCache::none(alloc, check.shows())),
-        Some(index) => {
-            let name = word_at(given.words, index).as_bytes();
-            let held = open_cache(alloc, name, given.cache, err)?;
-            Ok(VerdictCache::over(alloc, check.shows(), held))
-        }
-    }
-}
-
-/// Leaves the cache of a check that has one and ends with this status, unless a file was refused.
-fn leave_cache<F: Files>(
-    alloc: Global,
-    check: CheckWords,
-    words: &[String],
-    status: u8,
-    cache: &VerdictCache,
-    files: &mut F,
-) -> Result<(), Interrupt>
-    requires named { IfSome check.cache (λ index. index < length words.now) }
-    requires keeps { cache.now.keeps ≡ is_some check.cache }
-    ensures ok { let name = command_cache (words_bytes words.now) (commands.Check check) in
-        OnOk result (AreLeft (left_where (nat_le status 1) name cache.now.held cache.now.keys)
-        (F.held files.old) (F.held files.new)) }
-    ensures err { let name = command_cache (words_bytes words.now) (commands.Check check) in
-        OnErr result ((F.held files.new ≡ F.held files.old)
-        ⊎ AreLeft (left_where (nat_le status 1) name cache.now.held cache.now.keys)
-        (F.held files.old) (F.held files.new)) }
-    ensures cause { IsErrOf result Unwritten →
-        IfNamed (command_cache (words_bytes words.now) (commands.Check check))
-        (Rose (F.faults files.old) (F.faults files.new)) }
-    ensures honest { HonestWhereHonest (command_cache (words_bytes words.now) (commands.Check check)) cache.now.held
-        (F.held files.old) (F.held files.new) }
-    ensures missed_kept { Kept (F.missed files.old) (F.missed files.new) }
-    ensures faults_kept { Kept (F.faults files.old) (F.faults files.new) }
-{
-    match check.cache {
-        Some(index) if status <= 1 => {
-            let bytes = cache.cache_left(alloc)?;
-            replace_cache(alloc, words, index, &bytes, files)
-        }
-        _ => Ok(()),
-    }
+    let held = begin_cache(alloc, check, given, err)?;
+    Ok(VerdictCache::over(alloc, check.shows(), leaves_files(check), held))
 }
 
 /// Answers a check of these assemblies. The reports show the invariants where these are asked for. Where the check has
-/// a cache, units that it has are judged under what it holds for them, and at last it is replaced by the units of this
-/// call, unless a file was refused.
+/// a cache, units that it has are judged under what it holds for them. At last the proof file of the check is replaced,
+/// and then its cache, by the units of this call, unless a file was refused.
 ///
 /// Cost: the code of each method is read once, however many methods call it, and of equal units one is analysed, also
 /// among those of several files. What is found of a file is kept until its report is made, and the assemblies and the
@@ -184,8 +172,9 @@ pub fn answer_check<F: Files, O: Sink, E: Sink, D: Finder>(
 ) -> Result<u8, Interrupt>
     requires { IsCalled (commands.Check check) given.now }
     ensures answer { let words = words_bytes given.now.words.now in
-        GivesOrUnreplaced (bytes_answer (commands.Check check) words (cache_of given.now) (files_of given.now))
-        (IfNamed (command_cache words (commands.Check check)) (Rose (F.faults files.old) (F.faults files.new))) result
+        GivesOrUnreplaced (bytes_answer (commands.Check check) words (cache_of given.now) None (files_of given.now))
+        (IfEither (command_proof words (commands.Check check)) (command_cache words (commands.Check check))
+        (Rose (F.faults files.old) (F.faults files.new))) result
         (change_of O.written O.puts O.faults out.old out.new) (change_of E.written E.puts E.faults err.old err.new) }
     ensures begun { AreBegun (check_manner check (cache_of given.now)) (zip (names_of given.now) (files_of given.now))
         (O.written out.old) (O.written out.new) }
@@ -193,17 +182,15 @@ pub fn answer_check<F: Files, O: Sink, E: Sink, D: Finder>(
         (D.asked finder.old) (D.asked finder.new) }
     ensures left { let words = words_bytes given.now.words.now in
         AnswerLeaves (bytes_left (commands.Check check) words (cache_of given.now) (files_of given.now))
-        (bytes_answer (commands.Check check) words (cache_of given.now) (files_of given.now)).out result
+        (bytes_answer (commands.Check check) words (cache_of given.now) None (files_of given.now)).out result
         (change_of O.written O.puts O.faults out.old out.new) (F.held files.old) (F.held files.new) }
-    ensures alike { let words = words_bytes given.now.words.now in
-        AlikeWhereHonest (cache_entries (cache_of given.now))
-        (bytes_answer (commands.Check check) words (cache_of given.now) (files_of given.now))
-        (bytes_answer (commands.Check check) words None (files_of given.now)) result }
-    ensures honest { HonestWhereHonest (command_cache (words_bytes given.now.words.now) (commands.Check check))
+    ensures known { IfOk result (KnowsCheck check (cache_of given.now) (files_of given.now)) }
+    ensures honest { let words = words_bytes given.now.words.now in
+        HonestWhereHonest (command_cache words (commands.Check check)) (command_proof words (commands.Check check))
         (cache_entries (cache_of given.now)) (F.held files.old) (F.held files.new) }
 {
-    let mut cache = begin_check(alloc, check, given, err)?;
-    let status = answer_each(alloc, given, &mut cache, out, err, finder)?;
-    leave_cache(alloc, check, given.words, status, &cache, files)?;
+    let mut units = begin_check(alloc, check, given, err)?;
+    let status = answer_each(alloc, given, &mut units, out, err, finder)?;
+    leave_files(alloc, check, given.words, status, &units, files)?;
     Ok(status)
 }

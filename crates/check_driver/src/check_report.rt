@@ -15,7 +15,7 @@ ghost use Rattle.answer_lines.specs.Writing.{joined};
 ghost use Rattle.method_unit.specs.Units.{IsUnit};
 ghost use Rattle.unit_builder.specs.Outcomes.{IfAnalysed, entries_of, outcome_of};
 ghost use Rattle.unit_verdicts.specs.Asked.{Asks};
-ghost use Rattle.unit_verdicts.specs.Picks.{Manner, limit_manner, limit_pick, pick_of};
+ghost use Rattle.unit_verdicts.specs.Picks.{Manner, limit_manner, limit_pick, pick_from};
 ghost use Rattle.unit_verdicts.specs.VerdictCache.{manner_of};
 
 use crate::finding::Finding;
@@ -89,7 +89,7 @@ fn find<D: Finder>(
 ) -> Result<Finding, AllocError>
     requires there { index < length (methods_of units.old) }
     ensures same { units.new ≡ units.old }
-    ensures value { (method : MethodRow) → slice_get (methods_of units.old) index ≡ Some method → IfOk result (λ found. finding_in found ≡ outcome_finding (pick_of cache.old.held) (outcome_of units.old method)) }
+    ensures value { (method : MethodRow) → slice_get (methods_of units.old) index ≡ Some method → IfOk result (λ found. finding_in found ≡ outcome_finding (pick_from cache.old.held) (outcome_of units.old method)) }
     ensures shown { (method : MethodRow) → slice_get (methods_of units.old) index ≡ Some method
         → IfOk result (λ found. shown_in found ≡ outcome_shown (manner_of cache.old) (outcome_of units.old method)) }
     ensures within { IfOk result IsWithin }
@@ -111,7 +111,7 @@ pub fn find_all<D: Finder>(
     cache: &mut VerdictCache,
     finder: &mut D,
 ) -> Result<Vec<Finding>, AllocError>
-    ensures value { IfOk result (λ found. map finding_in found.items ≡ findings (pick_of cache.old.held) (entries_of assembly.now)) }
+    ensures value { IfOk result (λ found. map finding_in found.items ≡ findings (pick_from cache.old.held) (entries_of assembly.now)) }
     ensures shown { IfOk result (λ found. map shown_in found.items ≡ all_shown (manner_of cache.old) (entries_of assembly.now)) }
     ensures within { IfOk result (λ found. All IsWithin found.items) }
     ensures few { IfOk result (λ found. length found.items < 2 ^ 32) }
@@ -184,7 +184,7 @@ fn assembly_line(alloc: Global, name: &[u8]) -> Result<Vec<u8>, AllocError>
 }
 
 /// The lines of the report of an assembly of which these are the findings, in whatever manner these were found.
-#[tactic(auto, using(crate::proofs::ReportLines::found_are_entries), unfolding(crate::specs::CheckText::check_text))]
+#[tactic(auto, using(crate::proofs::ReportLines::found_are_entries), unfolding(crate::specs::CheckText::report_text))]
 fn check_lines(
     alloc: Global,
     name: &[u8],
@@ -224,7 +224,7 @@ pub fn report_lines<D: Finder>(
     cache: &mut VerdictCache,
     finder: &mut D,
 ) -> Result<ReportLines, AllocError>
-    ensures status { IfOk result (λ report. report.status ≡ (if all_methods_proved (pick_of cache.old.held) assembly.now then 0 else 1)) }
+    ensures status { IfOk result (λ report. report.status ≡ (if all_methods_proved (pick_from cache.old.held) assembly.now then 0 else 1)) }
     ensures text { IfOk result (λ report. joined report.lines.items ≡ check_text name.now (manner_of cache.old) assembly.now) }
     ensures lines { IfOk result (λ report. AreLines report.lines.items) }
     ensures reportable { IfOk result (λ _. IsReportable assembly.now) }

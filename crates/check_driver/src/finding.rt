@@ -9,7 +9,7 @@ ghost use Rattle.method_unit.specs.Units.{IsUnit};
 ghost use Rattle.unit_builder.specs.Outcomes.{IfAnalysed};
 ghost use Rattle.check_driver.specs.Findings.{IsWithin, callees_in, finding_in, shown_in, verdicts_in};
 ghost use Rattle.unit_verdicts.specs.Asked.{Asks};
-ghost use Rattle.unit_verdicts.specs.Picks.{pick_of};
+ghost use Rattle.unit_verdicts.specs.Picks.{pick_from};
 ghost use Rattle.unit_verdicts.specs.VerdictCache.{manner_of};
 
 use answer_lines::{Counts, proved_text};
@@ -50,7 +50,7 @@ impl Finding {
         finder: &mut D,
     ) -> Result<Finding, AllocError>
         requires { IfAnalysed outcome IsUnit }
-        ensures value { IfOk result (λ found. finding_in found ≡ outcome_finding (pick_of cache.old.held) outcome) }
+        ensures value { IfOk result (λ found. finding_in found ≡ outcome_finding (pick_from cache.old.held) outcome) }
         ensures shown { IfOk result (λ found. shown_in found ≡ outcome_shown (manner_of cache.old) outcome) }
         ensures within { IfOk result IsWithin }
         ensures cache { OnOk result (cache.new ≡ with_judged cache.old (outcome_key outcome)) }

@@ -7,11 +7,14 @@ mod check_report;
 mod finding;
 mod gen_answer;
 mod inputs;
+mod left_files;
 mod open_cache;
 mod program;
+mod proof_fault;
 mod reading;
 mod unit_answer;
 mod unit_report;
+mod verify_answer;
 
 pub use answer_lines::NO_MEMORY;
 pub use check_report::report;

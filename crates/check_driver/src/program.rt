@@ -12,29 +12,37 @@ ghost use Rattle.cc_base.specs.Sink.{AppendsFront};
 ghost use Rattle.cc_base.specs.declared.token.Token.{Token};
 ghost use Rattle.check_driver.specs.Asked.{AnswerAsks, LeavesAsked, asked_by, bytes_asked, files_asked};
 ghost use Rattle.cil_model.specs.Runs.{Safe};
-ghost use Rattle.check_driver.specs.CacheLeft.{AnswerLeaves, GivesOrUnreplaced, IfNamed, LeavesFiles, bytes_left, files_left, left_by};
-ghost use Rattle.check_driver.specs.CacheMet.{CallMet, IsMet, cache_entries, command_cache, met_of, without_cache};
-ghost use Rattle.check_driver.specs.CallRead.{IsCalled, cache_of, files_of, names_of};
-ghost use Rattle.check_driver.specs.Checked.{AreBegun, AreHeldBegun, IfCheck, IsSafeMethod};
+ghost use Rattle.check_driver.specs.BytesAnswered.{AnswersBytes};
+ghost use Rattle.check_driver.specs.CacheMet.{CallMet, IsMet, cache_entries, command_cache, command_proof, met_of};
+ghost use Rattle.check_driver.specs.CallRead.{IsCalled, cache_of, files_of};
+ghost use Rattle.check_driver.specs.Checked.{AreBegun, AreHeldBegun, IfCheck, IfReports, IsSafeMethod};
+ghost use Rattle.check_driver.specs.Confirmed.{AsksToConfirm, plain_report};
 ghost use Rattle.assembly_answers.specs.Answers.{run_file_answer};
-ghost use Rattle.check_driver.specs.Expected.{bytes_answer, check_manner, expected, file_at, files_answer};
+ghost use Rattle.check_driver.specs.Expected.{expected, file_at, files_answer};
+ghost use Rattle.check_driver.specs.FilesLeft.{AnswerLeaves, IfEither, LeavesFiles, files_left, left_by};
 ghost use Rattle.answer_lines.specs.Outcome.{Gives, GivesOrFails, Leaves, last_line, status_of};
 ghost use Rattle.check_driver.specs.Headline.{BeginsItsWorld, IsAssemblyOf, RunsKeepArrays, TellAllProved, WasAppended};
-ghost use Rattle.check_driver.specs.HonestCaches.{AlikeWhereHonest, AsksWithoutCache, HonestWhereHonest, IsCacheHonest, WritesAs};
+ghost use Rattle.check_driver.specs.HonestCaches.{AsksWithoutCache, HonestWhereHonest, IsCacheHonest, WritesAs};
+ghost use Rattle.check_driver.specs.Known.{AnswerKnows, KnowsCheck, WordsKnow};
 ghost use Rattle.check_driver.specs.NothingOr.{NothingOr};
+ghost use Rattle.check_driver.specs.ProofMet.{IsProofMet};
 ghost use Rattle.check_driver.specs.ProvedUnit.{AreSpelled, AsksForUnit, IfUnit, IsHeldSpelled, PrintsProvedUnit, SpellSafeUnit};
 ghost use Rattle.check_driver.specs.Refuted.{AsksToRefute, PrintsRefuted};
 ghost use Rattle.check_driver.specs.Sections.{HasProvedLine, section};
-ghost use Rattle.command_words.specs.Words.{HasArguments, IfGen, IfRun, args_told, cache_name, check_files, command_of, file_indexes, file_names, read_names, used_indexes, word_at, words_at, words_bytes};
+ghost use Rattle.command_words.specs.Words.{HasArguments, IfGen, IfRun, args_told, cache_name, checked_indexes, command_of, file_indexes, file_names, proof_name, read_names, used_indexes, word_at, words_at, words_bytes};
 ghost use Rattle.answer_lines.specs.Writing.{change_of};
 ghost use Rattle.unit_builder.specs.WorldOf.{world_of};
+ghost use Rattle.answer_lines.specs.Answers.{output_answer};
+ghost use Rattle.proof_files.specs.Reading.{ProofRead};
 ghost use Rattle.unit_verdicts.specs.Asked.{Asks};
+ghost use Rattle.unit_verdicts.specs.Picks.{Manner};
 
 use crate::check_answer::answer_check;
 use crate::gen_answer::answer_gen;
 use crate::inputs::{CallFiles, read_inputs};
 use crate::reading::Unread;
 use crate::unit_answer::answer_unit_file;
+use crate::verify_answer::answer_verify;
 use answer_lines::{
     Interrupt, NO_MEMORY, UNWRITTEN, USAGE, answer_error, answer_missing, answer_unread,
 };
@@ -82,7 +90,7 @@ fn answer_run_words<O: Sink, E: Sink>(
 }
 
 /// Answers a command for what was read of its files, of each at most `READ_LIMIT` bytes.
-#[tactic(auto, using(crate::proofs::CheckParts::other_answers))]
+#[tactic(auto, using(crate::proofs::BytesParts::answered))]
 fn answer_bytes<F: Files, O: Sink, E: Sink, D: Finder>(
     alloc: Global,
     command: Command,
@@ -96,24 +104,21 @@ fn answer_bytes<F: Files, O: Sink, E: Sink, D: Finder>(
     requires arguments { IfRun command (λ run. HasArguments run (words_bytes given.now.words.now)) }
     requires few { IfGen command (λ seed count. count ≤ 10000) }
     ensures answer { let words = words_bytes given.now.words.now in
-        GivesOrUnreplaced (bytes_answer command words (cache_of given.now) (files_of given.now))
-        (IfNamed (command_cache words command) (Rose (F.faults files.old) (F.faults files.new))) result
-        (change_of O.written O.puts O.faults out.old out.new) (change_of E.written E.puts E.faults err.old err.new) }
-    ensures begun { IfCheck command (λ check.
-        AreBegun (check_manner check (cache_of given.now)) (zip (names_of given.now) (files_of given.now))
+        let failed = Rose (F.faults files.old) (F.faults files.new) in
+        (read : Option ProofRead) × IsProofMet (files_of given.now) read
+        × AnswersBytes command words (cache_of given.now) read (files_of given.now)
+        (IfEither (command_proof words command) (command_cache words command) failed) result
+        (change_of O.written O.puts O.faults out.old out.new) (change_of E.written E.puts E.faults err.old err.new)
+        (F.held files.old) (F.held files.new) }
+    ensures begun { IfReports command ((manner : Manner)
+        × AreBegun manner (zip (words_at (words_bytes given.now.words.now) (checked_indexes command)) (files_of given.now))
         (O.written out.old) (O.written out.new)) }
     ensures asked { Asks (bytes_asked command (cache_of given.now) (files_of given.now)) result
         (D.asked finder.old) (D.asked finder.new) }
     ensures spelled { NothingOr (O.written out.old) (O.written out.new) (IfUnit command (λ _. AreSpelled (file_at (files_of given.now) 0))) }
-    ensures left { let words = words_bytes given.now.words.now in
-        AnswerLeaves (bytes_left command words (cache_of given.now) (files_of given.now))
-        (bytes_answer command words (cache_of given.now) (files_of given.now)).out result
-        (change_of O.written O.puts O.faults out.old out.new) (F.held files.old) (F.held files.new) }
-    ensures alike { let words = words_bytes given.now.words.now in
-        AlikeWhereHonest (cache_entries (cache_of given.now))
-        (bytes_answer command words (cache_of given.now) (files_of given.now))
-        (bytes_answer command words None (files_of given.now)) result }
-    ensures honest { HonestWhereHonest (command_cache (words_bytes given.now.words.now) command)
+    ensures known { IfOk result (λ status. IfCheck command (λ check. KnowsCheck check (cache_of given.now) (files_of given.now) status)) }
+    ensures honest { let words = words_bytes given.now.words.now in
+        HonestWhereHonest (command_cache words command) (command_proof words command)
         (cache_entries (cache_of given.now)) (F.held files.old) (F.held files.new) }
 {
     let words = given.words;
@@ -131,6 +136,19 @@ fn answer_bytes<F: Files, O: Sink, E: Sink, D: Finder>(
             answer_il(alloc, name, method, &given.read[0], out, err)
         }
         Command::Check(check) => answer_check(alloc, check, given, files, out, err, finder),
+        Command::Verify { file, proof } => {
+            let (name, by) = names_at(words, file, proof);
+            answer_verify(
+                alloc,
+                name,
+                &given.read[0],
+                by,
+                &given.read[1],
+                out,
+                err,
+                finder,
+            )
+        }
         Command::Run(run) => answer_run_words(alloc, run, words, &given.read[0], out, err),
         Command::Refute { file, method, runs } => {
             let (name, method) = names_at(words, file, method);
@@ -159,17 +177,17 @@ fn answer_command<F: Files, O: Sink, E: Sink, D: Finder>(
         let failed = Rose (F.faults files.old) (F.faults files.new) in
         (met : CallMet) × IsMet (F.held files.old) names cache met
         × GivesOrFails (files_answer command given met) (names ++ option_to_list cache) failed
-        (IfNamed cache failed) result
+        (IfEither (command_proof given command) cache failed) result
         (change_of O.written O.puts O.faults out.old out.new) (change_of E.written E.puts E.faults err.old err.new)
         × AnswerAsks (files_asked command given met) result (D.asked finder.old) (D.asked finder.new)
         × AnswerLeaves (files_left command given met) (files_answer command given met).out result
         (change_of O.written O.puts O.faults out.old out.new) (F.held files.old) (F.held files.new)
-        × AlikeWhereHonest (cache_entries met.cache) (files_answer command given met)
-        (files_answer command given (without_cache met)) result
-        × HonestWhereHonest cache (cache_entries met.cache) (F.held files.old) (F.held files.new) }
+        × AnswerKnows command given met result
+        × HonestWhereHonest cache (command_proof given command) (cache_entries met.cache) (F.held files.old) (F.held files.new) }
     ensures missing { IfOk result (λ status. status ≡ 3 → Rose (F.missed files.old) (F.missed files.new)) }
-    ensures begun { IfCheck command (λ check.
-        AreHeldBegun (F.held files.old) (words_at (words_bytes words.now) (check_files check)) (O.written out.old) (O.written out.new)) }
+    ensures memory { IfOk result (λ status. status ≢ 7) }
+    ensures begun { IfReports command
+        (AreHeldBegun (F.held files.old) (words_at (words_bytes words.now) (checked_indexes command)) (O.written out.old) (O.written out.new)) }
     ensures spelled { NothingOr (O.written out.old) (O.written out.new)
         (IfUnit command (λ file. IsHeldSpelled (F.held files.old) (word_at (words_bytes words.now) file))) }
 {
@@ -202,18 +220,19 @@ fn answer_words<F: Files, O: Sink, E: Sink, D: Finder>(
     ensures answer { let given = words_bytes words.now in
         let failed = Rose (F.faults files.old) (F.faults files.new) in
         (met : CallMet) × IsMet (F.held files.old) (file_names given) (cache_name given) met
-        × GivesOrFails (expected given met) (read_names given) failed (IfNamed (cache_name given) failed) result
+        × GivesOrFails (expected given met) (read_names given) failed (IfEither (proof_name given) (cache_name given) failed) result
         (change_of O.written O.puts O.faults out.old out.new) (change_of E.written E.puts E.faults err.old err.new)
         × AnswerAsks (asked_by given met) result (D.asked finder.old) (D.asked finder.new)
         × AnswerLeaves (left_by given met) (expected given met).out result
         (change_of O.written O.puts O.faults out.old out.new) (F.held files.old) (F.held files.new)
-        × AlikeWhereHonest (cache_entries met.cache) (expected given met) (expected given (without_cache met)) result
-        × HonestWhereHonest (cache_name given) (cache_entries met.cache) (F.held files.old) (F.held files.new) }
+        × WordsKnow given met result
+        × HonestWhereHonest (cache_name given) (proof_name given) (cache_entries met.cache) (F.held files.old) (F.held files.new) }
     ensures missing { IfOk result (λ status. status ≡ 3 → Rose (F.missed files.old) (F.missed files.new)) }
+    ensures memory { IfOk result (λ status. status ≢ 7) }
     ensures usage { command_of (words_bytes words.now) ≡ None → IfOk result (λ status. status ≡ 2) }
     ensures begun { let given = words_bytes words.now in
-        IfSome (command_of given) (λ command. IfCheck command (λ check.
-        AreHeldBegun (F.held files.old) (words_at given (check_files check)) (O.written out.old) (O.written out.new))) }
+        IfSome (command_of given) (λ command. IfReports command
+        (AreHeldBegun (F.held files.old) (words_at given (checked_indexes command)) (O.written out.old) (O.written out.new))) }
     ensures spelled { let given = words_bytes words.now in
         NothingOr (O.written out.old) (O.written out.new)
         (IfSome (command_of given) (λ command. IfUnit command (λ file. IsHeldSpelled (F.held files.old) (word_at given file)))) }
@@ -255,7 +274,7 @@ fn finish<E: Sink>(alloc: Global, answered: Result<u8, Interrupt>, err: &mut E) 
 /// The program: answers the words, writes to the two sinks and gives the status. The finder is asked for an invariant
 /// of each unit that is judged, of equal units once, and of none that the cache has.
 ///
-/// Statuses 4, 6 and 7 end a call early: a device refused a read, a sink or the file of the cache refused, memory ran
+/// Statuses 4, 6 and 7 end a call early: a device refused a read, a sink or a file that is to be left refused, memory ran
 /// out.
 pub fn run_words<F: Files, O: Sink, E: Sink, D: Finder>(
     alloc: Global,
@@ -267,7 +286,8 @@ pub fn run_words<F: Files, O: Sink, E: Sink, D: Finder>(
 ) -> u8
     // What is written, the status, what the finder is asked for, and the files after it: those that are expected for
     // the words and for what is held under the names of their files and of their cache (where that is not told, for
-    // something under each).
+    // something under each), and for what a proof file is read as. A status that is expected of none but a call whose
+    // memory ran out tells that the proof file was not read.
     ensures output { let given = words_bytes words.now in
         let failed = Rose (F.faults files.old) (F.faults files.new) in
         (met : CallMet) × IsMet (F.held files.old) (file_names given) (cache_name given) met
@@ -276,8 +296,9 @@ pub fn run_words<F: Files, O: Sink, E: Sink, D: Finder>(
         × LeavesAsked (asked_by given met) result (D.asked finder.old) (D.asked finder.new)
         × LeavesFiles (left_by given met) (expected given met).out result
         (change_of O.written O.puts O.faults out.old out.new) (F.held files.old) (F.held files.new) }
-    // Words that name no cache change no file.
-    ensures files { cache_name (words_bytes words.now) ≡ None → F.held files.new ≡ F.held files.old }
+    // Words that name neither a cache nor a proof file to be left change no file.
+    ensures files { cache_name (words_bytes words.now) ≡ None → proof_name (words_bytes words.now) ≡ None
+        → F.held files.new ≡ F.held files.old }
     // With a cache that is honest, missing or refused a check gives the reports and the status that it gives without
     // one.
     ensures cache { (held : Held) (other : List (List ℕ)) → F.held files.old ≡ Some held
@@ -289,6 +310,13 @@ pub fn run_words<F: Files, O: Sink, E: Sink, D: Finder>(
     ensures kept_honest { (held after : Held) → F.held files.old ≡ Some held → F.held files.new ≡ Some after
         → IsCacheHonest (cache_name (words_bytes words.now)) held
         → IsCacheHonest (cache_name (words_bytes words.now)) after }
+    // By the proof file that a check of one file has left, `verify` confirms it: it gives the report of that without the
+    // lines of invariants, and its status, unless memory runs out.
+    ensures confirmed { (held after : Held) (other : List (List ℕ)) (met : CallMet) → F.held files.old ≡ Some held
+        → F.held files.new ≡ Some after → (asks : AsksToConfirm (words_bytes words.now) other held)
+        → IsMet (Some after) (file_names other) None met → result ≤ 1 → (expected other met).status ≢ 7
+        → expected other met
+        ≡ output_answer result (plain_report (words_bytes words.now) held (word_at (words_bytes words.now) asks.file) asks.bytes) }
     // Where the report of an assembly has told each method that one reaches by calls to be proved, no run of that one
     // in its world, which begins with its own unit, is ever at a fault, whatever the status and however far the report
     // came.
@@ -319,7 +347,7 @@ pub fn run_words<F: Files, O: Sink, E: Sink, D: Finder>(
     ensures missing_cause { result ≡ 3 → Rose (F.missed files.old) (F.missed files.new) }
     ensures unread_cause { result ≡ 4 → Rose (F.faults files.old) (F.faults files.new) }
     ensures unwritten_cause { result ≡ 6 →
-        IfNamed (cache_name (words_bytes words.now)) (Rose (F.faults files.old) (F.faults files.new))
+        IfEither (proof_name (words_bytes words.now)) (cache_name (words_bytes words.now)) (Rose (F.faults files.old) (F.faults files.new))
         ⊎ (Rose (O.faults out.old) (O.faults out.new) ⊎ Rose (E.faults err.old) (E.faults err.new)) }
     // Words that are no command are told so, unless that line is interrupted.
     ensures usage { result ≡ 2 → command_of (words_bytes words.now) ≡ None }

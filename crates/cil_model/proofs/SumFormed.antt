@@ -12,6 +12,7 @@ use Rattle.cil_model.specs.declared.instruction.Instr.{Instr}
 use Rattle.cil_model.specs.declared.place.Place.TheVariants as places
 use Rattle.cil_model.proofs.SumKinds.{stacks, sum_has_kinds}
 use Rattle.cil_model.proofs.SumUnit.{sum, sum_info}
+use Rattle.cil_model.proofs.WrittenClauses.{as_written}
 
 -- An opcode of one byte without an operand, and with one of one byte or of four.
 alone : (b : ℕ) (i : Instr) → b < 256 → i.size ≡ 1 → SpellsForm (short_form b) (b ∷ []) i (b ∷ []) → Spells i (b ∷ [])
@@ -220,7 +221,7 @@ sum_is_well_formed = record {
   args = (int_is_no_void, tt);
   locals = tt;
   named = search (arith);
-  clauses = refl;
+  clauses = as_written sum.instrs sum.clauses refl;
   order = inr (refl, refl);
   callees = (callee_is, tt);
   numbers = (refl, tt);

@@ -1,5 +1,5 @@
 -- Units as the rest of the project takes them: those that files spell and that methods of assemblies make.
-use Rattle.std.specs.Prelude.{FitsSigned, ◌≡◌, ◌≢◌, ◌⊎◌, ℕ, ◌+◌, ◌<◌, ◌≤◌, List, [], ◌∷◌, length, map, sum_by, filter_map, Option, Some, None, IsSome}
+use Rattle.std.specs.Prelude.{FitsSigned, ◌≡◌, ◌≢◌, ◌⊎◌, ℕ, ◌+◌, ◌<◌, ◌≤◌, List, [], ◌∷◌, ◌++◌, length, map, sum_by, filter_map, Option, Some, None, IsSome}
 use Rattle.std.specs.Int.{w32}
 use Rattle.std.specs.List.{AllByRecursion}
 use Rattle.cil_model.specs.Blocks.{block_count, start_of_body}
@@ -13,6 +13,8 @@ use Rattle.cil_model.specs.TreeKinds.{IsNumberClause}
 use Rattle.cil_model.specs.UnitCalls.{unit_call, array_place, callee_of}
 use Rattle.cil_model.specs.declared.clause.Clause.{Clause}
 use Rattle.cil_model.specs.declared.clause.ClauseKind.{ClauseKind}
+use Rattle.cil_model.specs.declared.clause.ClauseKind.TheVariants as kinds
+use Rattle.cil_model.specs.declared.instruction.Instr.{Instr}
 use Rattle.cil_model.specs.declared.instruction.Op.{Op}
 use Rattle.cil_model.specs.declared.instruction.Op.TheVariants as ops
 use Rattle.cil_model.specs.declared.place.Place.{Place}
@@ -131,6 +133,18 @@ pub record IsCallee (callee : CalleeInfo) : Type 0 where
 abbrev pub told_by_code : Clause → ClauseKind × Option Term
 told_by_code clause = (clause.kind, Some clause.tree)
 
+-- A clause that was added to those of the code: one that holds at returns, whose constants are int32.
+abbrev pub IsAdded : Clause → Type 0
+IsAdded clause = (clause.kind ≡ kinds.Ensures) × HasInts clause
+
+-- The clauses of a unit with these instructions: those that the code tells, and after them such as were added.
+pub record HasClauses (is : List Instr) (clauses : List Clause) : Type 0 where
+  pub written : List Clause
+  pub added : List Clause
+  pub all : clauses ≡ written ++ added
+  pub told : clauses_in is ≡ map told_by_code written
+  pub ensures : AllByRecursion IsAdded added
+
 -- A well formed unit.
 pub record IsWellFormed (unit : MethodUnit) : Type 0 where
   pub name : IsUnitName unit.name
@@ -139,7 +153,7 @@ pub record IsWellFormed (unit : MethodUnit) : Type 0 where
   pub args : HoldValues unit.args
   pub locals : HoldValues unit.locals
   pub named : AllByRecursion (λ i. NamesSomething i.op) unit.instrs
-  pub clauses : clauses_in unit.instrs ≡ map told_by_code unit.clauses
+  pub clauses : HasClauses unit.instrs unit.clauses
   pub order : InOrderOfUse 0 (length unit.callees) (filter_map (λ i. called_by i.op) unit.instrs)
   pub callees : AllByRecursion IsCallee unit.callees
   pub numbers : AllByRecursion (IsNumberClause unit.args unit.result) unit.clauses

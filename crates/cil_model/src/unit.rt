@@ -30,6 +30,7 @@ pub struct Unit {
     /// The methods that the code calls, in order of first use.
     pub callees: List<CalleeInfo>,
     pub code: List<u8>,
+    /// The clauses that the code tells, and after them such as were added to these.
     pub clauses: List<Clause>,
     /// Where the body starts, after the contract block: an IL offset.
     pub body_start: u32,

@@ -28,10 +28,12 @@ one_inside None limit inside = All-from_recursion (λ (i : ℕ). i < limit) [] t
 one_inside (Some i) limit inside = All-from_recursion (λ (i : ℕ). i < limit) (i ∷ []) (inside, tt)
 
 -- All indexes that a check uses are those of words.
-pub used_inside : (check : CheckWords) (limit : ℕ) → check.count ≡ limit → 1 ≤ limit → IfSome check.cache (λ index. index < limit)
-    → All (λ index. index < limit) (check_files check ++ option_to_list check.cache)
-used_inside check limit count some inside =
-    All-append (λ (index : ℕ). index < limit) (check_files check) (option_to_list check.cache) (files_inside check limit count some) (one_inside check.cache limit inside)
+pub used_inside : (check : CheckWords) (limit : ℕ) → check.count ≡ limit → 1 ≤ limit → IfSome check.cache (λ index. index < limit) → IfSome check.proof (λ index. index < limit)
+    → All (λ index. index < limit) (check_files check ++ option_to_list check.cache ++ option_to_list check.proof)
+used_inside check limit count some cache proof =
+    All-append (λ (index : ℕ). index < limit) (check_files check ++ option_to_list check.cache) (option_to_list check.proof)
+    (All-append (λ (index : ℕ). index < limit) (check_files check) (option_to_list check.cache) (files_inside check limit count some) (one_inside check.cache limit cache))
+    (one_inside check.proof limit proof)
 
 -- The index of a word after `check` that is there.
 pub word_inside : (place : Option ℕ) (n : ℕ) → IfSome place (λ p. p < n) → IfSome (word_index place) (λ index. index < n + 1)

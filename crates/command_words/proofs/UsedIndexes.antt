@@ -1,9 +1,9 @@
--- The indexes that a command uses are those of its files and of its cache.
+-- The indexes that a command uses are those of its files, of its cache and of its proof file.
 use Rattle.std.proofs.Common.{ℕ, ◌<◌, List, [], ◌∷◌, ◌++◌, Option, Some, None, option_to_list}
 use Rattle.std.specs.Prelude.{All, IfSome}
 use Rattle.std.specs.List.{AllByRecursion}
 use Rattle.std.proofs.lemmas.List.Elements.{All-from_recursion, recursion_from_All}
-use Rattle.command_words.specs.Words.{cache_index, check_files, file_indexes, used_indexes}
+use Rattle.command_words.specs.Words.{cache_index, check_files, file_indexes, proof_index, used_indexes}
 use Rattle.command_words.specs.declared.command.Command.{Command}
 use Rattle.command_words.specs.declared.command.Command.TheVariants as commands
 
@@ -30,7 +30,9 @@ module _ (limit : ℕ) where
   files_below (commands.Unit file) all = all
   files_below (commands.List file) all = all
   files_below (commands.Il file method) all = first_alone file (method ∷ []) all
-  files_below (commands.Check check) all = first_part (check_files check) (option_to_list check.cache) all
+  files_below (commands.Check check) all =
+      first_part (check_files check) (option_to_list check.cache) (first_part (check_files check ++ option_to_list check.cache) (option_to_list check.proof) all)
+  files_below (commands.Verify file proof) all = all
   files_below (commands.Run run) all = first_alone run.file (run.method ∷ []) all
   files_below (commands.Refute file method runs) all = first_alone file (method ∷ []) all
   files_below (commands.Gen seed count) all = tt
@@ -39,10 +41,24 @@ module _ (limit : ℕ) where
   cache_below (commands.Unit file) all = tt
   cache_below (commands.List file) all = tt
   cache_below (commands.Il file method) all = tt
-  cache_below (commands.Check check) all = one_below check.cache (last_part (check_files check) (option_to_list check.cache) all)
+  cache_below (commands.Check check) all =
+      one_below check.cache
+      (last_part (check_files check) (option_to_list check.cache) (first_part (check_files check ++ option_to_list check.cache) (option_to_list check.proof) all))
+  cache_below (commands.Verify file proof) all = tt
   cache_below (commands.Run run) all = tt
   cache_below (commands.Refute file method runs) all = tt
   cache_below (commands.Gen seed count) all = tt
+
+  proof_below : (command : Command) → AllByRecursion IsBelow (used_indexes command) → IfSome (proof_index command) IsBelow
+  proof_below (commands.Unit file) all = tt
+  proof_below (commands.List file) all = tt
+  proof_below (commands.Il file method) all = tt
+  proof_below (commands.Check check) all =
+      one_below check.proof (last_part (check_files check ++ option_to_list check.cache) (option_to_list check.proof) all)
+  proof_below (commands.Verify file proof) all = tt
+  proof_below (commands.Run run) all = tt
+  proof_below (commands.Refute file method runs) all = tt
+  proof_below (commands.Gen seed count) all = tt
 
   -- Those of its files are below what all are below.
   pub files_used : (command : Command) → All IsBelow (used_indexes command) → All IsBelow (file_indexes command)
@@ -51,3 +67,7 @@ module _ (limit : ℕ) where
   -- So is that of its cache.
   pub cache_used : (command : Command) → All IsBelow (used_indexes command) → IfSome (cache_index command) IsBelow
   cache_used command used = cache_below command (recursion_from_All IsBelow (used_indexes command) used)
+
+  -- So is that of the proof file that it writes.
+  pub proof_used : (command : Command) → All IsBelow (used_indexes command) → IfSome (proof_index command) IsBelow
+  proof_used command used = proof_below command (recursion_from_All IsBelow (used_indexes command) used)

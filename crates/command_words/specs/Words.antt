@@ -55,11 +55,16 @@ gen_told _ _ = None
 abbrev pub gen_command : List ℕ → List ℕ → Option Command
 gen_command seed count = gen_told (number_of_word MAX_SEED seed) (number_of_word MAX_METHODS count)
 
--- The command of three words: `il FILE METHOD` or `gen SEED COUNT`.
+-- The command that reports on an assembly by a proof file.
+abbrev pub verify_command : List ℕ → List ℕ → Option Command
+verify_command file proof = if is_name_word file && is_name_word proof then Some (commands.Verify 1 2) else None
+
+-- The command of three words: `il FILE METHOD`, `gen SEED COUNT` or `verify FILE F`.
 unfoldable pub command_of_three : List ℕ → List ℕ → List ℕ → Option Command
 command_of_three word first second =
     if bytes_eq word (codes "il") then il_command first second
     else if bytes_eq word (codes "gen") then gen_command first second
+    else if bytes_eq word (codes "verify") then verify_command first second
     else None
 
 -- ---- checks
@@ -72,13 +77,24 @@ is_show word = bytes_eq word (codes "--show")
 abbrev pub is_cache : List ℕ → Bool
 is_cache word = bytes_eq word (codes "--cache")
 
+-- The word after which the proof file that is written is named.
+abbrev pub is_proof : List ℕ → Bool
+is_proof word = bytes_eq word (codes "--proof")
+
 -- A word that may stand after `check`.
 abbrev pub is_check_word : List ℕ → Bool
-is_check_word word = is_show word || (is_cache word || is_name_word word)
+is_check_word word = is_show word || (is_cache word || (is_proof word || is_name_word word))
 
--- Where the name of a cache stands among these words: after the first `--cache`.
+-- Where a name stands among these words: after the first that is such an option.
+abbrev pub name_place : (List ℕ → Bool) → List (List ℕ) → Option ℕ
+name_place is_option words = option_map (λ place. place + 1) (position is_option words)
+
+-- Where the name of a cache stands, and where that of a proof file.
 abbrev pub cache_place : List (List ℕ) → Option ℕ
-cache_place words = option_map (λ place. place + 1) (position is_cache words)
+cache_place words = name_place is_cache words
+
+abbrev pub proof_place : List (List ℕ) → Option ℕ
+proof_place words = name_place is_proof words
 
 -- The word at this place, where there is one, is a name that no other of these words is.
 abbrev pub is_own_name : List (List ℕ) → Option ℕ → Bool
@@ -89,29 +105,36 @@ is_own_name words (Some place) = is_name_word (word_at words place) && count_by 
 abbrev pub MAX_FILES : ℕ
 MAX_FILES = 64
 
--- How many of these words name files of a check: all but `--show`, `--cache` and the name after that.
+-- How many of these words name files of a check: all but `--show`, `--cache` and `--proof`, and the names after these two.
 abbrev pub file_count : List (List ℕ) → ℕ
-file_count words = length words - (count_by is_show words + 2 * count_by is_cache words)
+file_count words = length words - (count_by is_show words + 2 * (count_by is_cache words + count_by is_proof words))
 
--- At most one `--show`, at most one `--cache`, and 1 to 64 files.
+-- At most one `--show`, at most one `--cache`, at most one `--proof`, and 1 to 64 files.
 abbrev pub are_few : List (List ℕ) → Bool
 are_few words =
-    nat_le (count_by is_show words) 1 && nat_le (count_by is_cache words) 1 && nat_le 1 (file_count words) && nat_le (file_count words) MAX_FILES
+    nat_le (count_by is_show words) 1 && nat_le (count_by is_cache words) 1 && nat_le (count_by is_proof words) 1
+    && nat_le 1 (file_count words) && nat_le (file_count words) MAX_FILES
 
--- Words are those of a check where each may stand there, none of a kind stands there too often, and the cache has a name
--- of its own.
+-- Words are those of a check where each may stand there, none of a kind stands there too often, and the cache and the
+-- proof file have names of their own.
 abbrev pub are_check_words : List (List ℕ) → Bool
-are_check_words words = list_all is_check_word words && are_few words && is_own_name words (cache_place words)
+are_check_words words = list_all is_check_word words && are_few words && is_own_name words (cache_place words) && is_own_name words (proof_place words)
 
 -- The index, among all words of a check, of the word at this place after `check`.
 abbrev pub word_index : Option ℕ → Option ℕ
 word_index place = option_map (λ place. place + 1) place
 
--- How many words a check has, and which of them are `--show` and the name of the cache, for the words after `check`.
+-- How many words a check has, and which of them are `--show` and the names of the cache and of the proof file, for the
+-- words after `check`.
 unfoldable pub check_words : List (List ℕ) → Option CheckWords
 check_words words =
     if are_check_words words
-    then Some (record { count = length words + 1; show = word_index (position is_show words); cache = word_index (cache_place words) })
+    then Some (record {
+      count = length words + 1;
+      show = word_index (position is_show words);
+      cache = word_index (cache_place words);
+      proof = word_index (proof_place words);
+    })
     else None
 
 -- The word at an index is `--show`.
@@ -119,14 +142,14 @@ abbrev pub tells_show : Option ℕ → ℕ → Bool
 tells_show None index = false
 tells_show (Some show) index = index == show
 
--- The word at an index is the name of the cache, or `--cache` before it.
-abbrev pub tells_cache : Option ℕ → ℕ → Bool
-tells_cache None index = false
-tells_cache (Some name) index = index == name || index == name - 1
+-- The word at an index is the name at another, or the option before that.
+abbrev pub tells_name : Option ℕ → ℕ → Bool
+tells_name None index = false
+tells_name (Some name) index = index == name || index == name - 1
 
 -- The word at an index names a file of a check, unless it is `check` or tells something else.
 abbrev pub names_file : CheckWords → ℕ → Bool
-names_file check index = not (tells_show check.show index) && not (tells_cache check.cache index)
+names_file check index = not (tells_show check.show index) && not (tells_name check.cache index) && not (tells_name check.proof index)
 
 -- The indexes of the words that name the files of a check, in order.
 abbrev pub check_files : CheckWords → List ℕ
@@ -236,6 +259,7 @@ file_indexes (commands.Unit file) = file ∷ []
 file_indexes (commands.List file) = file ∷ []
 file_indexes (commands.Il file method) = file ∷ []
 file_indexes (commands.Check check) = check_files check
+file_indexes (commands.Verify file proof) = file ∷ proof ∷ []
 file_indexes (commands.Run run) = run.file ∷ []
 file_indexes (commands.Refute file method runs) = file ∷ []
 file_indexes (commands.Gen seed count) = []
@@ -246,6 +270,7 @@ checked_indexes (commands.Unit file) = []
 checked_indexes (commands.List file) = []
 checked_indexes (commands.Il file method) = []
 checked_indexes (commands.Check check) = check_files check
+checked_indexes (commands.Verify file proof) = file ∷ []
 checked_indexes (commands.Run run) = []
 checked_indexes (commands.Refute file method runs) = []
 checked_indexes (commands.Gen seed count) = []
@@ -256,16 +281,29 @@ cache_index (commands.Unit file) = None
 cache_index (commands.List file) = None
 cache_index (commands.Il file method) = None
 cache_index (commands.Check check) = check.cache
+cache_index (commands.Verify file proof) = None
 cache_index (commands.Run run) = None
 cache_index (commands.Refute file method runs) = None
 cache_index (commands.Gen seed count) = None
+
+-- The index of the word that names the proof file that the command writes, if it writes one.
+abbrev pub proof_index : Command → Option ℕ
+proof_index (commands.Unit file) = None
+proof_index (commands.List file) = None
+proof_index (commands.Il file method) = None
+proof_index (commands.Check check) = check.proof
+proof_index (commands.Verify file proof) = None
+proof_index (commands.Run run) = None
+proof_index (commands.Refute file method runs) = None
+proof_index (commands.Gen seed count) = None
 
 -- The indexes of all words that the command uses.
 abbrev pub used_indexes : Command → List ℕ
 used_indexes (commands.Unit file) = file ∷ []
 used_indexes (commands.List file) = file ∷ []
 used_indexes (commands.Il file method) = file ∷ method ∷ []
-used_indexes (commands.Check check) = check_files check ++ option_to_list check.cache
+used_indexes (commands.Check check) = check_files check ++ option_to_list check.cache ++ option_to_list check.proof
+used_indexes (commands.Verify file proof) = file ∷ proof ∷ []
 used_indexes (commands.Run run) = run.file ∷ run.method ∷ []
 used_indexes (commands.Refute file method runs) = file ∷ method ∷ []
 used_indexes (commands.Gen seed count) = []
@@ -293,6 +331,10 @@ checked_names words = checked_files words (command_of words)
 -- The name of the cache that a command of these words has, if it has one.
 abbrev pub cache_name : List (List ℕ) → Option (List ℕ)
 cache_name words = option_map (word_at words) (option_and_then cache_index (command_of words))
+
+-- The name of the proof file that a command of these words writes, if it writes one. No file of this name is read.
+abbrev pub proof_name : List (List ℕ) → Option (List ℕ)
+proof_name words = option_map (word_at words) (option_and_then proof_index (command_of words))
 
 -- The names of the files that are read for these words, in order: those that must be there, and then the cache.
 abbrev pub read_names : List (List ℕ) → List (List ℕ)

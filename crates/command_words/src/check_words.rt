@@ -3,21 +3,23 @@
 ghost use Rattle.std.specs.Prelude.{◌≡◌, ◌+◌, ◌<◌, ◌≤◌, ◌++◌, All, IfOk, IfSome, IsTrue, Some, count_by, is_some, length, option_to_list, position, string_bytes};
 ghost use Rattle.std.specs.List.{list_all};
 ghost use Rattle.std.specs.Str.{bytes_eq};
-ghost use Rattle.command_words.specs.Words.{are_check_words, are_few, cache_place, check_files, check_words, is_cache, is_check_word, is_name_word, is_own_name, is_show, names_file, tells_cache, tells_show, word_index, words_bytes};
+ghost use Rattle.command_words.specs.Words.{are_check_words, are_few, cache_place, check_files, check_words, is_cache, is_check_word, is_name_word, is_own_name, is_proof, is_show, names_file, proof_place, tells_name, tells_show, word_index, words_bytes};
 
 use crate::names::is_name_word;
 use std::alloc::{AllocError, Global};
 
-/// The words of a check: `check`, and then its files, perhaps `--show`, and perhaps `--cache` and the name of a cache, in
-/// any order. All other words name files.
+/// The words of a check: `check`, and then its files, perhaps `--show`, perhaps `--cache` and the name of a cache, and
+/// perhaps `--proof` and the name of a proof file, in any order. All other words name files.
 #[derive(Clone, Copy, Debug, PartialEq, Eq)]
 pub struct CheckWords {
-    /// The number of all words, with `check` and what is no file: at most 68.
+    /// The number of all words, with `check` and what is no file: at most 70.
     pub count: u32,
     /// The index of `--show`, where it is among them.
     pub show: Option<u32>,
     /// The index of the name of the cache, right after `--cache`, where that is among them.
     pub cache: Option<u32>,
+    /// The index of the name of the proof file that is written, right after `--proof`, where that is among them.
+    pub proof: Option<u32>,
 }
 
 impl CheckWords {
@@ -38,21 +40,11 @@ impl CheckWords {
         }
     }
 
-    /// Returns whether the word at an index is the name of the cache, or `--cache` before it.
-    fn tells_cache(&self, index: u32) -> bool
-        ensures { result ≡ tells_cache self.now.cache index }
-    {
-        match self.cache {
-            Some(name) => index == name || index == name.saturating_sub(1),
-            None => false,
-        }
-    }
-
     /// Returns whether the word at an index, which is not that of `check`, names a file.
     fn names_file(&self, index: u32) -> bool
         ensures { result ≡ names_file self.now index }
     {
-        !self.tells_show(index) && !self.tells_cache(index)
+        !self.tells_show(index) && !tells_name(self.cache, index) && !tells_name(self.proof, index)
     }
 
     /// The indexes of the words that name files, in their order.
@@ -62,6 +54,16 @@ impl CheckWords {
         (1..self.count)
             .filter(|index| self.names_file(*index))
             .collect(alloc)
+    }
+}
+
+/// Returns whether the word at an index is the name at another, or the option before that.
+fn tells_name(name: Option<u32>, index: u32) -> bool
+    ensures { result ≡ tells_name name index }
+{
+    match name {
+        Some(name) => index == name || index == name.saturating_sub(1),
+        None => false,
     }
 }
 
@@ -79,6 +81,13 @@ fn is_cache(word: &String) -> bool
     word.as_str() == "--cache"
 }
 
+/// Returns whether the proof file that is written is named after this word.
+fn is_proof(word: &String) -> bool
+    ensures { result ≡ is_proof (string_bytes word.now) }
+{
+    word.as_str() == "--proof"
+}
+
 /// Returns whether a word may name a file.
 fn is_file(word: &String) -> bool
     ensures { result ≡ is_name_word (string_bytes word.now) }
@@ -90,7 +99,7 @@ fn is_file(word: &String) -> bool
 fn is_check_word(word: &String) -> bool
     ensures { result ≡ is_check_word (string_bytes word.now) }
 {
-    is_show(word) || is_cache(word) || is_file(word)
+    is_show(word) || is_cache(word) || is_proof(word) || is_file(word)
 }
 
 /// Returns whether each word may stand after `check`.
@@ -121,6 +130,14 @@ fn count_caches(words: &[String]) -> usize
     ensures { result ≡ count_by is_cache (words_bytes words.now) }
 {
     words.iter().filter(|word| is_cache(word)).count()
+}
+
+/// After how many words a proof file is named.
+#[tactic(auto, using(crate::proofs::WordBytes::told))]
+fn count_proofs(words: &[String]) -> usize
+    ensures { result ≡ count_by is_proof (words_bytes words.now) }
+{
+    words.iter().filter(|word| is_proof(word)).count()
 }
 
 /// How many of these words are this one.
@@ -164,8 +181,25 @@ fn cache_place(words: &[String]) -> Option<usize>
     Some(place + 1)
 }
 
+/// The place of the first word after which a proof file is named.
+fn first_proof(words: &[String]) -> Option<usize>
+    ensures value { result ≡ position (λ word. is_proof (string_bytes word)) words.now }
+    ensures bound { IfSome result (λ place. place < length words.now) }
+{
+    words.iter().position(is_proof)
+}
+
+/// The place of the word after that one, where the name of the proof file stands.
+fn proof_place(words: &[String]) -> Option<usize>
+    ensures value { result ≡ proof_place (words_bytes words.now) }
+    ensures bound { IfSome result (λ place. place ≤ length words.now) }
+{
+    let place = first_proof(words)?;
+    Some(place + 1)
+}
+
 /// Returns whether the word at this place is a name that no other of these words is.
-fn is_own_name(words: &[String], place: usize) -> bool
+fn is_own_word(words: &[String], place: usize) -> bool
     ensures value { result ≡ is_own_name (words_bytes words.now) (Some place) }
     ensures there { IsTrue result → place < length words.now }
 {
@@ -175,13 +209,13 @@ fn is_own_name(words: &[String], place: usize) -> bool
     }
 }
 
-/// Returns whether the cache that is named, if one is, has a name that no other of these words is.
-fn names_own_cache(words: &[String]) -> bool
-    ensures value { result ≡ is_own_name (words_bytes words.now) (cache_place (words_bytes words.now)) }
-    ensures there { IsTrue result → IfSome (cache_place (words_bytes words.now)) (λ place. place < length words.now) }
+/// The same, where there is a place.
+fn is_own_name(words: &[String], place: Option<usize>) -> bool
+    ensures value { result ≡ is_own_name (words_bytes words.now) place }
+    ensures there { IsTrue result → IfSome place (λ place. place < length words.now) }
 {
-    match cache_place(words) {
-        Some(place) => is_own_name(words, place),
+    match place {
+        Some(place) => is_own_word(words, place),
         None => true,
     }
 }
@@ -189,32 +223,38 @@ fn names_own_cache(words: &[String]) -> bool
 /// The most files that a check may have.
 const MAX_FILES: usize = 64;
 
-/// Returns whether at most one word asks for invariants, a cache is named at most once, and 1 to 64 words name files.
+/// Returns whether at most one word asks for invariants, a cache and a proof file are named at most once each, and 1 to 64
+/// words name files.
 fn are_few(words: &[String]) -> bool
     ensures value { result ≡ are_few (words_bytes words.now) }
-    ensures few { IsTrue result → length words.now ≤ 67 }
+    ensures few { IsTrue result → length words.now ≤ 69 }
 {
     let shows = count_shows(words);
     let caches = count_caches(words);
-    if shows > 1 || caches > 1 {
+    let proofs = count_proofs(words);
+    if shows > 1 || caches > 1 || proofs > 1 {
         return false;
     }
-    let files = words.len().saturating_sub(shows + 2 * caches);
+    let files = words.len().saturating_sub(shows + 2 * (caches + proofs));
     1 <= files && files <= MAX_FILES
 }
 
 /// Returns whether these words may stand after `check`.
 fn are_check_words(words: &[String]) -> bool
     ensures value { result ≡ are_check_words (words_bytes words.now) }
-    ensures few { IsTrue result → length words.now ≤ 67 }
-    ensures there { IsTrue result → IfSome (cache_place (words_bytes words.now)) (λ place. place < length words.now) }
+    ensures few { IsTrue result → length words.now ≤ 69 }
+    ensures cache { IsTrue result → IfSome (cache_place (words_bytes words.now)) (λ place. place < length words.now) }
+    ensures proof { IsTrue result → IfSome (proof_place (words_bytes words.now)) (λ place. place < length words.now) }
 {
-    may_follow(words) && are_few(words) && names_own_cache(words)
+    may_follow(words)
+        && are_few(words)
+        && is_own_name(words, cache_place(words))
+        && is_own_name(words, proof_place(words))
 }
 
 /// The index, among all words, of the word at a place after `check`.
 fn word_index(place: Option<usize>) -> Option<u32>
-    requires { IfSome place (λ place. place ≤ 67) }
+    requires { IfSome place (λ place. place ≤ 69) }
     ensures { result ≡ word_index place }
 {
     match place {
@@ -223,11 +263,11 @@ fn word_index(place: Option<usize>) -> Option<u32>
     }
 }
 
-/// The words of a check, where these stand after `check`: 1 to 64 files, perhaps `--show`, and perhaps `--cache` and a name
-/// that none of the files has.
+/// The words of a check, where these stand after `check`: 1 to 64 files, perhaps `--show`, perhaps `--cache` and a name, and
+/// perhaps `--proof` and another. None of the files has either name.
 #[tactic(auto, unfolding(crate::specs::Words::check_words))]
 pub fn read_check(words: &[String]) -> Option<CheckWords>
-    ensures inside { IfSome result (λ check. All (λ index. index < length words.now + 1) (check_files check ++ option_to_list check.cache)) }
+    ensures inside { IfSome result (λ check. All (λ index. index < length words.now + 1) (check_files check ++ option_to_list check.cache ++ option_to_list check.proof)) }
     ensures value { result ≡ check_words (words_bytes words.now) }
 {
     if !are_check_words(words) {
@@ -237,5 +277,6 @@ pub fn read_check(words: &[String]) -> Option<CheckWords>
         count: words.len() as u32 + 1,
         show: word_index(show_place(words)),
         cache: word_index(cache_place(words)),
+        proof: word_index(proof_place(words)),
     })
 }

@@ -2,7 +2,7 @@
 
 ghost use Rattle.std.specs.Prelude.{◌≡◌, [], ◌∷◌, ◌+◌, ◌<◌, ◌≤◌, ◌^◌, All, IfOk, IfSome, IsTrue, length, option_map, string_bytes};
 ghost use Rattle.std.specs.List.{list_all};
-ghost use Rattle.command_words.specs.Words.{HasArguments, IfGen, IfRun, args_end, at_least_one, cache_index, check_words, command_of, command_of_three, command_of_two, file_indexes, gen_command, il_command, is_name_word, names_run, other_command, refute_command, run_args, run_command, run_steps, runs_told, tells_steps, used_indexes, word_at, words_bytes};
+ghost use Rattle.command_words.specs.Words.{HasArguments, IfGen, IfRun, args_end, at_least_one, cache_index, check_words, command_of, command_of_three, command_of_two, file_indexes, gen_command, il_command, is_name_word, names_run, other_command, proof_index, refute_command, run_args, run_command, run_steps, runs_told, tells_steps, used_indexes, verify_command, word_at, words_bytes};
 ghost use Rattle.command_words.specs.declared.command.Command.TheVariants as commands;
 ghost use Rattle.run_arguments.specs.Arguments as arguments;
 ghost use Rattle.run_arguments.specs.Numbers.{number_of_word};
@@ -22,9 +22,16 @@ pub enum Command {
     List(u32),
     /// The instructions of a method: the file of its assembly, then the method.
     Il(u32, u32),
-    /// The reports of the assemblies in files, with the invariants of their methods or without, and with a cache or
-    /// without.
+    /// The reports of the assemblies in files, with the invariants of their methods or without, and with a cache and a
+    /// proof file that is written or without them.
     Check(CheckWords),
+    /// The report of an assembly by the invariants of a proof file.
+    Verify {
+        /// The index of the word that names the file of the assembly.
+        file: u32,
+        /// The index of the word that names the proof file.
+        proof: u32,
+    },
     /// A run of a method.
     Run(RunWords),
     /// A search for arguments with which a run of a method ends in a fault.
@@ -62,6 +69,15 @@ fn only(alloc: Global, index: u32) -> Result<Vec<u32>, AllocError>
     Ok(indexes)
 }
 
+/// Two indexes.
+fn both(alloc: Global, first: u32, second: u32) -> Result<Vec<u32>, AllocError>
+    ensures { IfOk result (λ indexes. indexes.items ≡ first ∷ second ∷ []) }
+{
+    let mut indexes = only(alloc, first)?;
+    indexes.push(second)?;
+    Ok(indexes)
+}
+
 impl Command {
     /// The indexes of the words that name its files, in the order in which the files are read.
     pub fn files(&self, alloc: Global) -> Result<Vec<u32>, AllocError>
@@ -73,6 +89,7 @@ impl Command {
             | Command::Il(file, _)
             | Command::Run(RunWords { file, .. })
             | Command::Refute { file, .. } => only(alloc, *file),
+            Command::Verify { file, proof } => both(alloc, *file, *proof),
             Command::Check(words) => words.files(alloc),
             Command::Gen(_, _) => Ok(Vec::new(alloc)),
         }
@@ -84,6 +101,16 @@ impl Command {
     {
         match self {
             Command::Check(words) => words.cache,
+            _ => None,
+        }
+    }
+
+    /// The index of the word that names the proof file that it writes, if it writes one.
+    pub fn proof(&self) -> Option<u32>
+        ensures { result ≡ proof_index self.now }
+    {
+        match self {
+            Command::Check(words) => words.proof,
             _ => None,
         }
     }
@@ -112,6 +139,18 @@ fn il_command(file: &str, method: &str) -> Option<Command>
 {
     if is_name_word(file) && is_name_word(method) {
         return Some(Command::Il(1, 2));
+    }
+    None
+}
+
+/// The command that reports on an assembly by a proof file, where the words may name files.
+fn verify_command(file: &str, proof: &str) -> Option<Command>
+    ensures inside { IfSome result (λ command. All (λ index. index < 3) (used_indexes command)) }
+    ensures no_run { IfSome result (λ command. IfRun command (λ run. ⊥)) }
+    ensures command { result ≡ verify_command file.now proof.now }
+{
+    if is_name_word(file) && is_name_word(proof) {
+        return Some(Command::Verify { file: 1, proof: 2 });
     }
     None
 }
@@ -148,6 +187,7 @@ fn command_of_three(word: &str, first: &str, second: &str) -> Option<Command>
     match word {
         "il" => il_command(first, second),
         "gen" => gen_command(first, second),
+        "verify" => verify_command(first, second),
         _ => None,
     }
 }

@@ -1,5 +1,5 @@
 -- The constants of a unit's own clauses are int32, since those of its code are.
-use Rattle.std.proofs.Common.{◌≡◌, ℕ, zero, suc, ◌+◌, Bool, true, false, nat_lt, List, [], ◌∷◌, ◌++◌, length, map, Option, Some, None, if◌then◌else◌, refl, subst}
+use Rattle.std.proofs.Common.{◌≡◌, ℕ, zero, suc, ◌+◌, Bool, true, false, nat_lt, List, [], ◌∷◌, ◌++◌, length, map, Option, Some, None, if◌then◌else◌, refl, subst, sym}
 use Rattle.std.specs.List.{AllByRecursion}
 use Rattle.std.specs.Option.{option_and_then}
 use Rattle.std.proofs.lemmas.Bool.{cond_both}
@@ -11,7 +11,7 @@ use Rattle.cil_model.specs.Terms as terms
 use Rattle.cil_model.specs.Terms.{Term}
 use Rattle.cil_model.specs.Blocks.{closes}
 use Rattle.cil_model.specs.UnitCalls.{unit_call}
-use Rattle.cil_model.specs.WellFormed.{HasInts, IsIntRoot, IsWellFormed, told_by_code}
+use Rattle.cil_model.specs.WellFormed.{HasInts, IsAdded, IsIntRoot, IsWellFormed, told_by_code}
 use Rattle.cil_model.specs.declared.clause.Clause.{Clause}
 use Rattle.cil_model.specs.declared.clause.ClauseKind.{ClauseKind}
 use Rattle.cil_model.specs.declared.instruction.BinOp.{BinOp}
@@ -23,7 +23,7 @@ use Rattle.cil_model.specs.declared.instruction.Test.TheVariants as tests
 use Rattle.cil_model.specs.declared.unit.Unit.{Unit as MethodUnit}
 use Rattle.cil_model.specs.declared.unit_numbers.UnitCall.{UnitCall}
 use Rattle.cil_model.specs.declared.unit_numbers.UnitCall.TheVariants as calls
-use Rattle.cil_model.proofs.Lists.{of_found}
+use Rattle.cil_model.proofs.Lists.{all_append, of_found}
 use Rattle.cil_model.proofs.Rows.{code_is_decoded}
 
 abbrev AreInts : Term → Type 0
@@ -186,8 +186,15 @@ of_told : (clauses : List Clause) → AllByRecursion IsIntClause (map told_by_co
 of_told [] all = tt
 of_told (clause ∷ clauses) all = (all.0, of_told clauses all.1)
 
+added_ints : (clauses : List Clause) → AllByRecursion IsAdded clauses → AllByRecursion HasInts clauses
+added_ints [] all = tt
+added_ints (clause ∷ clauses) all = (all.0.1, added_ints clauses all.1)
+
 pub own_ints : (unit : MethodUnit) → IsWellFormed unit → AllByRecursion HasInts unit.clauses
 own_ints unit formed =
-    of_told unit.clauses
-    (subst (AllByRecursion IsIntClause) formed.clauses
-    (all_ints unit.instrs 0 unit.instrs (code_is_decoded unit.instrs unit.code formed.code).constants))
+    let clauses = formed.clauses in
+    let written = of_told clauses.written
+    (subst (AllByRecursion IsIntClause) clauses.told
+    (all_ints unit.instrs 0 unit.instrs (code_is_decoded unit.instrs unit.code formed.code).constants)) in
+    subst (AllByRecursion HasInts) (sym clauses.all)
+    (all_append HasInts clauses.written clauses.added written (added_ints clauses.added clauses.ensures))

@@ -112,7 +112,7 @@ module _ (unit : MethodUnit) (is : IsUnit unit) where
     clauses_told (clause ∷ clauses) = ap (λ others. clause ∷ others) (clauses_told clauses)
 
     same_clauses : filter_map clause_told (clauses_in (instructions_of fields.code)) ≡ unit.clauses
-    same_clauses = ap (λ all. filter_map clause_told (clauses_in all)) same_instrs ∙ (ap (filter_map clause_told) is.well_formed.clauses ∙ clauses_told unit.clauses)
+    same_clauses = ap (λ all. filter_map clause_told (clauses_in all)) same_instrs ∙ (ap (filter_map clause_told) is.told ∙ clauses_told unit.clauses)
 
     same_body : start_of_body (instructions_of fields.code) ≡ unit.body_start
     same_body = ap start_of_body same_instrs ∙ sym is.well_formed.body

@@ -11,6 +11,7 @@ use Rattle.cil_model.specs.TreeKinds.{IsNumberClause}
 use Rattle.cil_model.specs.Bodies.{HasBody}
 use Rattle.cil_model.specs.WellFormed.{ClausesWithinLimits, IsWellFormed, told_by_code}
 use Rattle.cil_model.proofs.TypedCode.{formed_never_stuck}
+use Rattle.cil_model.proofs.WrittenClauses.{as_written}
 use Rattle.cil_model.specs.declared.clause.Clause.{Clause}
 use Rattle.cil_model.specs.declared.instruction.Instr.{Instr}
 use Rattle.cil_model.specs.declared.shape.Shape.{Shape}
@@ -115,6 +116,10 @@ module _ (bytes : List ℕ) (unit : MethodUnit) (fits : IsBytes bytes) (none : f
       let code = none_behind (field_test bytes ∷ []) (code_tests_of fields) none in
       instrs_passed fields.code_offset (shape_told fields) fields.callee_offsets is (none_behind (decoding_test fields.code_offset fields.code ∷ []) rest code)
 
+  told_are : clauses_in is ≡ map told_by_code told.clauses
+  unfolding fields is told
+  told_are = of.told.contracts.told ∙ ap (map told_by_code) (sym (clauses_are fields is unit of))
+
   well_formed : IsWellFormed told
   unfolding fields is told
   well_formed =
@@ -128,7 +133,7 @@ module _ (bytes : List ℕ) (unit : MethodUnit) (fits : IsBytes bytes) (none : f
         args = taken.fields.args;
         locals = taken.fields.locals;
         named = numbers_are_named fields.code_offset (length fields.callees) is passed.numbers;
-        clauses = of.told.contracts.told ∙ ap (map told_by_code) (sym clauses);
+        clauses = as_written is told.clauses told_are;
         order = order_is_use fields.code_offset (length fields.callees) is fields.callee_offsets (offsets_counted bytes) passed.numbers passed.order;
         callees = taken.fields.callees;
         numbers = subst (AllByRecursion (IsNumberClause fields.args fields.result)) (sym clauses) (of.numbers of.kinds.0 decoded of.kinds.1);
@@ -147,7 +152,7 @@ module _ (bytes : List ℕ) (unit : MethodUnit) (fits : IsBytes bytes) (none : f
   unit_read =
       let same = unit_is_told fields is unit of in
       let taken = fields_taken bytes told fits fields_passed (record { name = refl; result = refl; args = refl; locals = refl; max_stack = refl; callees = refl; code = refl }) in
-      let is_unit = subst IsUnit (sym same) (record { well_formed = well_formed; clauses = passed.clauses }) in
+      let is_unit = subst IsUnit (sym same) (record { well_formed = well_formed; clauses = passed.clauses; told = told_are }) in
       record {
         same = same;
         is_unit = is_unit;

@@ -16,6 +16,8 @@ mod heap_rows;
 #[cfg(test)]
 mod inner_rows;
 #[cfg(test)]
+mod member_rows;
+#[cfg(test)]
 mod table_rows;
 #[cfg(test)]
 mod writer_rows;

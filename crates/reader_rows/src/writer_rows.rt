@@ -1,7 +1,7 @@
-//! Methods at the limits of the writer, and one past; a file of so many methods that indexes have four bytes.
+//! Methods and externs at the limits of the writer, and one past; a file of so many methods that indexes have four bytes.
 
 use asm_image::{Assembly, MethodRow};
-use asm_writer::{AsmPlan, MethodPlan, WriteRefusal, write_assembly};
+use asm_writer::{AsmPlan, Extern, MethodPlan, WriteRefusal, write_assembly, write_linked};
 use cc_base::Token;
 use cil_model::Place;
 use std::alloc::{AllocError, Global};
@@ -79,6 +79,46 @@ fn methods_beyond_a_limit_are_not_written(rt: HostRuntime) -> Result<(), Fail> {
             is_too_large(alloc, &plan)? != is_within,
             "{args} {locals} {max_stack} {code}"
         );
+    }
+    Ok(())
+}
+
+/// Numbers of arguments of an extern, and whether it may have them. The low byte of the last alone would pass.
+const EXTERN_LIMITS: [(usize, bool); 4] = [(0, true), (256, true), (257, false), (512, false)];
+
+/// The extern with so many arguments.
+fn extern_of(alloc: Global, args: usize) -> Result<Extern, AllocError> {
+    let assembly = Vec::from_slice(alloc, b"B")?;
+    let class = Vec::from_slice(alloc, b"D")?;
+    let name = Vec::from_slice(alloc, b"n")?;
+    let args = vec![in alloc; Place::Ints; args]?;
+    Ok(Extern {
+        assembly,
+        namespace: Vec::new(alloc),
+        class,
+        name,
+        result: Place::Bool,
+        args,
+    })
+}
+
+/// Returns whether no assembly is written of a class without methods that cites this extern, as it is too large.
+fn is_too_long(alloc: Global, method: Extern) -> Result<bool, AllocError> {
+    let plan = class_of(alloc, Vec::new(alloc))?;
+    let externs = vec![in alloc; method]?;
+    match write_linked(alloc, &plan, b"A", &externs) {
+        Ok(_) => Ok(false),
+        Err(WriteRefusal::TooLarge) => Ok(true),
+        Err(WriteRefusal::NoMemory) => Err(AllocError),
+    }
+}
+
+#[test]
+fn externs_beyond_a_limit_are_not_written(rt: HostRuntime) -> Result<(), Fail> {
+    let alloc = rt.alloc();
+    for (args, is_within) in EXTERN_LIMITS {
+        let method = extern_of(alloc, args)?;
+        assert!(rt; is_too_long(alloc, method)? != is_within, "{args}");
     }
     Ok(())
 }

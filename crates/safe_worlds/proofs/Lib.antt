@@ -4,3 +4,4 @@ pub mod CutLemmas
 pub mod SafeWorlds
 pub mod RecursiveWorld
 pub mod StrangerWorld
+pub mod StrengthenedWorlds

@@ -1,3 +1,4 @@
 pub mod Frames
 pub mod Cuts
 pub mod Worlds
+pub mod Strengthened

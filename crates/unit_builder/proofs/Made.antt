@@ -7,6 +7,7 @@ use Rattle.std.proofs.lemmas.List.{length-map}
 use Rattle.asm_image.specs.declared.method_row.MethodRow.{MethodRow}
 use Rattle.cc_base.specs.Tests.{first_of, must}
 use Rattle.cc_base.proofs.TestLemmas.{must_hold, none_before, none_behind, none_here}
+use Rattle.cil_model.specs.ClauseTrees.{clauses_in}
 use Rattle.cil_model.specs.Limits.{MAX_BLOCKS, MAX_CODE_BYTES, MAX_INSTRUCTIONS, MAX_NAME_BYTES, MAX_VARIABLES}
 use Rattle.cil_model.specs.Shapes.{shape_of}
 use Rattle.cil_model.specs.Bodies.{HasBody}
@@ -36,6 +37,7 @@ use Rattle.unit_builder.specs.Reasons.{blocks_in, code_tests, has_none, has_shor
 use Rattle.unit_builder.specs.Rows.{IsRowOf}
 use Rattle.unit_builder.specs.declared.reason.Reason.{Reason}
 use Rattle.unit_builder.specs.declared.reason.Reason.TheVariants.{LocalType, LocalsNotZero, Section, TooLarge, Code, Clauses}
+use Rattle.cil_model.proofs.WrittenClauses.{as_written}
 
 none_of : {X Y : Type 0} (f : X → Y) (x : Option X) → option_map f x ≡ None → x ≡ None
 none_of f None none = refl
@@ -149,6 +151,10 @@ module _ (s : Scope) (method : MethodRow) (unit : MethodUnit) (small : HasSmallN
     instrs = parts.instrs i;
   }
 
+  told_are : clauses_in (unit_of s method).instrs ≡ map told_by_code (unit_of s method).clauses
+  unfolding unit_of
+  told_are = parts.contracts.told.told ∙ ap (map told_by_code) (sym clauses_are)
+
   well_formed : first_of (reason_tests s method) ≡ None → IsWellFormed (unit_of s method)
   unfolding unit_of unit_shape
   well_formed none =
@@ -166,7 +172,7 @@ module _ (s : Scope) (method : MethodRow) (unit : MethodUnit) (small : HasSmallN
         args = args.0;
         locals = locals.0;
         named = tokens_named (length (callee_keys s method)) (unit_instrs s method) tests.code.tokens;
-        clauses = parts.contracts.told.told ∙ ap (map told_by_code) (sym clauses_are);
+        clauses = as_written (unit_of s method).instrs (unit_of s method).clauses told_are;
         order = subst (λ (n : ℕ). InOrderOfUse 0 n (filter_map (λ i. called_by i.op) (unit_instrs s method))) (sym callees) (in_order s method small);
         callees = subst (AllByRecursion _) parts.callees.infos_are parts.callees.each;
         numbers = subst (AllByRecursion (IsNumberClause (args_of method.sig.types) (result_of method.sig.types))) (sym clauses_are) (parts.contracts.numbers (unit_shape s method) stacks (record { result = refl; args = refl }) parts.kinds.1);
@@ -191,7 +197,7 @@ module _ (s : Scope) (method : MethodRow) (unit : MethodUnit) (small : HasSmallN
 
   pub unit_made : first_of (reason_tests s method) ≡ None → IsMade s method unit
   unit_made none =
-      let is_unit : IsUnit (unit_of s method) = record { well_formed = well_formed none; clauses = no_clause_fault none } in
+      let is_unit : IsUnit (unit_of s method) = record { well_formed = well_formed none; clauses = no_clause_fault none; told = told_are } in
       record {
         same = unit_is;
         is_unit = subst IsUnit (sym unit_is) is_unit;

@@ -1,5 +1,5 @@
 -- The map that holds what is kept of units.
-use Rattle.std.proofs.Common.{◌≡◌, ◌≤◌, ℕ, zero, suc, Bool, true, false, ◌||◌, List, [], ◌∷◌, ◌++◌, length, cond, slice_get, Option, None, Some, option_map, Bor, Vec, Global, refl, sym, ap, subst, ◌∙◌}
+use Rattle.std.proofs.Common.{◌≡◌, ◌≤◌, ℕ, zero, suc, Bool, true, false, ◌||◌, List, [], ◌∷◌, ◌++◌, length, map, cond, slice_get, Option, None, Some, option_map, Bor, Vec, Global, refl, sym, ap, subst, ◌∙◌}
 use Rattle.std.specs.Prelude.{is_some, option_copied}
 use Rattle.std.specs.List.{AllByRecursion}
 use Rattle.std.specs.Map.{lookup}
@@ -11,6 +11,7 @@ use Rattle.indexmap.specs.IndexMap.{insert_entry}
 use Rattle.result_cache.specs.Entries.{AreShort, Entry, invariant_of, is_among}
 use Rattle.unit_verdicts.specs.VerdictCache.{AreCached, AreNew, IsCached, JudgedEntry, keys_in}
 use Rattle.unit_verdicts.specs.declared.analysis.CachedUnit.{CachedUnit}
+use Rattle.unit_verdicts.specs.declared.source.Source.{Source}
 
 -- ---- what is found
 
@@ -64,20 +65,21 @@ module _ (P : List ℕ → CachedUnit → Type 0) where
 
 -- ---- what is noted
 
-abbrev pub inserted : List JudgedEntry → Vec ℕ Global → CachedUnit → List JudgedEntry
-inserted entries key unit = insert_entry (λ a b. bytes_eq a.items b.items) entries key unit
+module _ {V : Type 0} where
+  abbrev pub inserted : List (Vec ℕ Global × V) → Vec ℕ Global → V → List (Vec ℕ Global × V)
+  inserted entries key value = insert_entry (λ a b. bytes_eq a.items b.items) entries key value
 
-inserted_last : (entries : List JudgedEntry) (key : Vec ℕ Global) (unit : CachedUnit)
-    → is_among (keys_in entries) key.items ≡ false
-    → inserted entries key unit ≡ entries ++ (key, unit) ∷ []
-inserted_last [] key unit new = refl
-inserted_last (entry ∷ entries) key unit new = by_test (bytes_eq key.items entry.0.items) new (inserted_last entries key unit)
-  where
-    by_test : (same : Bool) → (same || is_among (keys_in entries) key.items) ≡ false
-        → (is_among (keys_in entries) key.items ≡ false → inserted entries key unit ≡ entries ++ (key, unit) ∷ [])
-        → cond same ((entry.0, unit) ∷ entries) (entry ∷ inserted entries key unit) ≡ entry ∷ (entries ++ (key, unit) ∷ [])
-    by_test true new later = absurd cc
-    by_test false new later = ap (λ (es : List JudgedEntry). entry ∷ es) (later new)
+  pub inserted_last : (entries : List (Vec ℕ Global × V)) (key : Vec ℕ Global) (value : V)
+      → is_among (map (λ (entry : Vec ℕ Global × V). entry.0.items) entries) key.items ≡ false
+      → inserted entries key value ≡ entries ++ (key, value) ∷ []
+  inserted_last [] key value new = refl
+  inserted_last (entry ∷ entries) key value new = by_test (bytes_eq key.items entry.0.items) new (inserted_last entries key value)
+    where
+      by_test : (same : Bool) → (same || is_among (map (λ (entry : Vec ℕ Global × V). entry.0.items) entries) key.items) ≡ false
+          → (is_among (map (λ (entry : Vec ℕ Global × V). entry.0.items) entries) key.items ≡ false → inserted entries key value ≡ entries ++ (key, value) ∷ [])
+          → cond same ((entry.0, value) ∷ entries) (entry ∷ inserted entries key value) ≡ entry ∷ (entries ++ (key, value) ∷ [])
+      by_test true new later = absurd cc
+      by_test false new later = ap (λ (es : List (Vec ℕ Global × V)). entry ∷ es) (later new)
 
 -- A new key goes last.
 pub noted_last : (old new : List JudgedEntry) (key : Vec ℕ Global) (unit : CachedUnit) (seen : List (List ℕ))
@@ -108,12 +110,12 @@ new_last seen (first ∷ keys) key new unseen none =
     (new.0, new_last (seen ++ first ∷ []) keys key new.1 behind apart.1)
 
 -- What is kept, with one more.
-pub cached_noted : (show keeps : Bool) (held : List Entry) (old new : List JudgedEntry) (key : Vec ℕ Global) (unit : CachedUnit)
+pub cached_noted : (show keeps : Bool) (held : Source) (old new : List JudgedEntry) (key : Vec ℕ Global) (unit : CachedUnit)
     → new ≡ old ++ (key, unit) ∷ []
     → AreCached show keeps held old → is_among (keys_in old) key.items ≡ false → IsCached show keeps held key.items unit
     → AreCached show keeps held new
 cached_noted show keeps held old new key unit is cached absent its = record {
-  short = cached.short;
+  held_for = cached.held_for;
   keys = subst (AreNew []) (sym (keys_noted old new key unit (keys_in old) refl is)) (new_last [] (keys_in old) key.items cached.keys refl absent);
   each = rw is (cached_push (IsCached show keeps held) old key unit cached.each its);
 }

@@ -1,6 +1,7 @@
 -- What is found of a unit under what the finder answers, or a cache file holds, is told by the unit and its manner alone.
-use Rattle.std.proofs.Common.{◌≡◌, ℕ, Bool, true, List, [], ◌∷◌, map, Option, Some, None, Result, Ok, Err, Vec, Global, if◌then◌else◌, refl, ap, ap₂, ◌∙◌, subst, sym}
+use Rattle.std.proofs.Common.{◌≡◌, ℕ, Bool, true, false, List, [], ◌∷◌, map, Option, Some, None, Result, Ok, Err, Vec, Global, if◌then◌else◌, refl, ap, ap₂, ◌∙◌, subst, sym}
 use Rattle.std.specs.Prelude.{IfOk, unwrap_or}
+use Rattle.std.proofs.lemmas.Bool.{false≢true}
 use Rattle.std.proofs.lemmas.Option.{none-some}
 use Rattle.abs_state.specs.StateParts.{parts_of}
 use Rattle.cil_model.specs.declared.unit.Unit.{Unit as MethodUnit}
@@ -18,10 +19,14 @@ use Rattle.unit_flow.specs.declared.unit_flow.UnitFlow.{UnitFlow}
 use Rattle.unit_form.specs.Spelling.{unit_bytes}
 use Rattle.widening_engine.specs.Limits.{limit_of}
 use Rattle.unit_verdicts.specs.CacheFile.{invariant_used, limit_bytes}
+use Rattle.proof_files.specs.Proofs.{Entry as ProofEntry}
+use Rattle.unit_verdicts.specs.Keys.{IsKey}
 use Rattle.unit_verdicts.specs.Picks.{Manner, held_or_limit, limit_manner, limit_pick, pick_of, shown_text, state_of, states_in, states_text, verdicts_under}
-use Rattle.unit_verdicts.specs.VerdictCache.{AreBytesOf, IsCached, IsKey, manner_under}
+use Rattle.unit_verdicts.specs.ProvedUnits.{states_for}
+use Rattle.unit_verdicts.specs.VerdictCache.{AreBytesOf, IsCached, manner_under}
 use Rattle.unit_verdicts.specs.Verdicts.{AreVerdictsOf, AreVerdictsUnder, AreWithin}
 use Rattle.unit_verdicts.specs.declared.analysis.CachedUnit.{CachedUnit}
+use Rattle.unit_verdicts.specs.declared.source.Source.TheVariants.{Cache as OfCache, Proof as OfProof}
 use Rattle.unit_verdicts.specs.declared.unit_verdicts.UnitVerdicts.{UnitVerdicts}
 use Rattle.unit_verdicts.proofs.UnitSafety.{within_limits}
 
@@ -63,10 +68,10 @@ found_copied manner unit found copy verdicts shown are = record {
 
 -- ---- keys
 
-unit_told : (unit : MethodUnit) (key : List ℕ) → IsUnit unit → key ≡ unit_bytes unit → unit_of key ≡ unit
+pub unit_told : (unit : MethodUnit) (key : List ℕ) → IsUnit unit → key ≡ unit_bytes unit → unit_of key ≡ unit
 unit_told unit key is spelled = ap unit_of spelled ∙ (unit_again unit is).1
 
-is_key : (unit : MethodUnit) (key : List ℕ) → IsUnit unit → key ≡ unit_bytes unit → IsKey key
+pub is_key : (unit : MethodUnit) (key : List ℕ) → IsUnit unit → key ≡ unit_bytes unit → IsKey key
 is_key unit key is spelled =
     let same = unit_told unit key is spelled in
     record { is_unit = subst IsUnit (sym same) is; spelled = ap unit_bytes same ∙ sym spelled }
@@ -83,9 +88,9 @@ found_again manner unit key found is spelled are = subst (λ (u : MethodUnit). A
 pub cached_held : {E : Type 0} (r : Result CachedUnit E) (show keeps : Bool) (held : List Entry) (code : UnitFlow) (key bytes : List ℕ)
     → IsUnit code.unit → code ≡ flow_of code.unit
     → key ≡ unit_bytes code.unit → Some bytes ≡ invariant_of held key → IsInvariant bytes
-    → IfOk r (λ unit. AreVerdictsUnder show code (states_in bytes) unit.found) → IfOk r (IsCached show keeps held key)
+    → IfOk r (λ unit. AreVerdictsUnder show code (states_in bytes) unit.found) → IfOk r (IsCached show keeps (OfCache held) key)
 cached_held (Ok unit) show keeps held code key bytes is flow spelled there invariant are =
-    let manner = manner_under show held in
+    let manner = manner_under show (OfCache held) in
     let picked : states_in bytes ≡ pick_of held code.unit =
     ap (λ (found : Option (List ℕ)). held_or_limit found code.unit) (there ∙ ap (invariant_of held) spelled) in
     let found = found_under manner code (states_in bytes) unit.found is flow picked are in
@@ -103,10 +108,10 @@ pub cached_found : {E : Type 0} (r : Result CachedUnit E) (show keeps : Bool) (h
     → key ≡ unit_bytes code.unit → None ≡ invariant_of held key
     → IfOk r (λ unit. AreVerdictsUnder show code (limit_of code) unit.found)
     → IfOk r (λ unit. keeps ≡ true → AreBytesOf (limit_of code) unit.invariant.items)
-    → IfOk r (IsCached show keeps held key)
+    → IfOk r (IsCached show keeps (OfCache held) key)
 unfolding limit_bytes
 cached_found (Ok unit) show keeps held code key is flow spelled none are own =
-    let manner = manner_under show held in
+    let manner = manner_under show (OfCache held) in
     let picked : limit_of code ≡ pick_of held code.unit =
     limit_picked code flow
     ∙ ap (λ (found : Option (List ℕ)). held_or_limit found code.unit) (none ∙ ap (invariant_of held) spelled) in
@@ -125,6 +130,22 @@ cached_found (Ok unit) show keeps held code key is flow spelled none are own =
       own = λ keeping _. subst (λ (states : List State). AreBytesOf states unit.invariant.items) limit (own keeping);
     }
 cached_found (Err e) show keeps held code key is flow spelled none are own = tt
+
+-- The states are those that a proof file states, and nothing is kept.
+pub cached_proved : {E : Type 0} (r : Result CachedUnit E) (show : Bool) (proved : List ProofEntry) (code : UnitFlow) (key : List ℕ) (states : List State)
+    → IsUnit code.unit → code ≡ flow_of code.unit
+    → key ≡ unit_bytes code.unit → states ≡ states_for proved key
+    → IfOk r (λ unit. AreVerdictsUnder show code states unit.found) → IfOk r (IsCached show false (OfProof proved) key)
+cached_proved (Ok unit) show proved code key states is flow spelled stated are =
+    let manner = manner_under show (OfProof proved) in
+    let found = found_under manner code states unit.found is flow (stated ∙ ap (states_for proved) spelled) are in
+    record {
+      is_key = is_key code.unit key is spelled;
+      found = subst (λ (u : MethodUnit). AreVerdictsOf manner u unit.found) (sym (unit_told code.unit key is spelled)) found;
+      used = λ keeps. absurd (false≢true keeps);
+      own = λ keeps none. absurd (false≢true keeps);
+    }
+cached_proved (Err e) show proved code key states is flow spelled stated are = tt
 
 -- ---- bytes of states
 

@@ -18,8 +18,10 @@ use Rattle.unit_form.specs.Spelling.{unit_bytes}
 use Rattle.unit_form.specs.declared.form.UnitForm.{UnitForm}
 use Rattle.unit_form.specs.declared.form.UnitForm.TheVariants.{Second}
 use Rattle.unit_verdicts.specs.CacheFile.{AreHonest, IsHonest, IsHonestFile, invariant_used, limit_bytes}
+use Rattle.unit_verdicts.specs.Keys.{IsKey}
 use Rattle.unit_verdicts.specs.Picks.{Pick, held_or_limit, limit_manner, limit_pick, pick_of, shown_text, states_in, states_text, verdicts_under}
-use Rattle.unit_verdicts.specs.VerdictCache.{IsKey, manner_under}
+use Rattle.unit_verdicts.specs.VerdictCache.{manner_under}
+use Rattle.unit_verdicts.specs.declared.source.Source.TheVariants.{Cache as OfCache}
 
 -- ---- what is held
 
@@ -68,7 +70,7 @@ pub honest_verdicts : (entries : List Entry) (unit : MethodUnit) → AreHonest e
 honest_verdicts entries unit honest is = picked_verdicts (pick_of entries) limit_pick unit (honest_pick entries unit honest is)
 
 pub honest_text : (show : Bool) (entries : List Entry) (unit : MethodUnit) → AreHonest entries → IsUnit unit
-    → shown_text (manner_under show entries) unit ≡ shown_text (limit_manner show) unit
+    → shown_text (manner_under show (OfCache entries)) unit ≡ shown_text (limit_manner show) unit
 honest_text show entries unit honest is = picked_text show (pick_of entries) limit_pick unit (honest_pick entries unit honest is)
 
 -- ---- entries and files

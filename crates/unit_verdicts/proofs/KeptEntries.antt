@@ -8,8 +8,9 @@ use Rattle.result_cache.specs.Entries.{AreEntries, AreEntriesBehind, Entry, inva
 use Rattle.result_cache.specs.Spelling.{IsCacheFile, entry_size, file_bytes, kept, kept_within}
 use Rattle.unit_form.specs.declared.form.UnitForm.TheVariants.{Second}
 use Rattle.unit_verdicts.specs.CacheFile.{AreHonest, IsHonest, IsHonestFile, cache_left, entries_used, invariant_used, limit_bytes}
-use Rattle.unit_verdicts.specs.Picks.{limit_pick, states_in}
+use Rattle.unit_verdicts.specs.Picks.{entries_in, limit_pick, states_in}
 use Rattle.unit_verdicts.specs.VerdictCache.{AreCached, AreNew, CachedUnits, IsCached, JudgedEntry, entries_kept, keys_in}
+use Rattle.unit_verdicts.specs.declared.source.Source.{Source}
 use Rattle.unit_verdicts.proofs.CacheLemmas.{all_at, stands_at}
 use Rattle.unit_verdicts.proofs.Honest.{used_honest}
 
@@ -21,9 +22,9 @@ entries_are : (held : List Entry) (seen keys : List (List ℕ)) → AreNew seen 
 entries_are held seen [] new used = tt
 entries_are held seen (key ∷ keys) new used = (new.0, used.0, entries_are held (seen ++ key ∷ []) keys new.1 used.1)
 
-all_used : (show : Bool) (held : List Entry) (entries : List JudgedEntry)
+all_used : (show : Bool) (held : Source) (entries : List JudgedEntry)
     → AllByRecursion (λ entry. IsCached show true held entry.0.items entry.1) entries
-    → AllByRecursion (λ key. IsInvariant (invariant_used held key)) (keys_in entries)
+    → AllByRecursion (λ key. IsInvariant (invariant_used (entries_in held) key)) (keys_in entries)
 all_used show held [] all = tt
 all_used show held (entry ∷ entries) all = (all.0.used refl, all_used show held entries all.1)
 
@@ -34,23 +35,23 @@ pub kept_are : (cache : CachedUnits) (entries : List JudgedEntry) → AreCached 
 kept_are cache entries cached keys = by cache.keeps cached
   where
     by : (keeps : Bool) → AreCached cache.show keeps cache.held entries
-        → AreEntries (cond keeps (entries_used cache.held cache.keys) [])
+        → AreEntries (cond keeps (entries_used (entries_in cache.held) cache.keys) [])
     by true cached =
-        subst (λ (keys : List (List ℕ)). AreEntries (entries_used cache.held keys)) keys
-        (entries_are cache.held [] (keys_in entries) cached.keys (all_used cache.show cache.held entries cached.each))
+        subst (λ (keys : List (List ℕ)). AreEntries (entries_used (entries_in cache.held) keys)) keys
+        (entries_are (entries_in cache.held) [] (keys_in entries) cached.keys (all_used cache.show cache.held entries cached.each))
     by false cached = tt
 
-all_honest : (show : Bool) (held : List Entry) (entries : List JudgedEntry) → AreHonest held
+all_honest : (show : Bool) (held : Source) (entries : List JudgedEntry) → AreHonest (entries_in held)
     → AllByRecursion (λ entry. IsCached show true held entry.0.items entry.1) entries
-    → AreHonest (entries_used held (keys_in entries))
+    → AreHonest (entries_used (entries_in held) (keys_in entries))
 unfolding limit_bytes
 all_honest show held [] honest all = tt
 all_honest show held (entry ∷ entries) honest all =
     let key = entry.0.items in
     let one = all.0 in
-    let limit : invariant_of held key ≡ None → states_in (limit_bytes (unit_of key)) ≡ limit_pick (unit_of key) =
+    let limit : invariant_of (entries_in held) key ≡ None → states_in (limit_bytes (unit_of key)) ≡ limit_pick (unit_of key) =
     λ none. let its = one.own refl none in ap states_in (sym its.spelled) ∙ its.again in
-    (used_honest held key honest one.is_key limit, all_honest show held entries honest all.1)
+    (used_honest (entries_in held) key honest one.is_key limit, all_honest show held entries honest all.1)
 
 -- ---- those that have room
 
@@ -71,33 +72,33 @@ kept_all P entries all = within_all P 67108856 entries all
 -- ---- the file
 
 -- What is kept, where something is.
-entries_if : (cache : CachedUnits) → cache.keeps ≡ true → entries_kept cache ≡ entries_used cache.held cache.keys
-entries_if cache keeps = ap (λ (b : Bool). cond b (entries_used cache.held cache.keys) []) keeps
+pub entries_if : (cache : CachedUnits) → cache.keeps ≡ true → entries_kept cache ≡ entries_used (entries_in cache.held) cache.keys
+entries_if cache keeps = ap (λ (b : Bool). cond b (entries_used (entries_in cache.held) cache.keys) []) keeps
 
 module _ {X F : Type 0} (items : X → List ℕ) (cache : CachedUnits) (keeps : cache.keeps ≡ true) where
   pub left_value : (r : Result X F) → IfOk r (λ bytes. items bytes ≡ file_bytes Second (kept (entries_kept cache)))
-      → IfOk r (λ bytes. items bytes ≡ cache_left cache.held cache.keys)
+      → IfOk r (λ bytes. items bytes ≡ cache_left (entries_in cache.held) cache.keys)
   unfolding cache_left
   left_value (Ok bytes) is = is ∙ ap (λ (es : List Entry). file_bytes Second (kept es)) (entries_if cache keeps)
   left_value (Err e) is = tt
 
   pub left_file : (r : Result X F) → IfOk r (λ bytes. IsCacheFile Second (kept (entries_kept cache)) (items bytes))
-      → IfOk r (λ bytes. IsCacheFile Second (kept (entries_used cache.held cache.keys)) (items bytes))
+      → IfOk r (λ bytes. IsCacheFile Second (kept (entries_used (entries_in cache.held) cache.keys)) (items bytes))
   left_file (Ok bytes) is = subst (λ (es : List Entry). IsCacheFile Second (kept es) (items bytes)) (entries_if cache keeps) is
   left_file (Err e) is = tt
 
   pub left_honest : (r : Result X F) (entries : List JudgedEntry) → AreCached cache.show cache.keeps cache.held entries
-      → keys_in entries ≡ cache.keys → AreHonest cache.held
+      → keys_in entries ≡ cache.keys → AreHonest (entries_in cache.held)
       → IfOk r (λ bytes. IsCacheFile Second (kept (entries_kept cache)) (items bytes))
       → IfOk r (λ bytes. IsHonestFile (items bytes))
   left_honest (Ok bytes) entries cached keys honest is =
       let every = subst (λ (keeps : Bool). AllByRecursion (λ entry. IsCached cache.show keeps cache.held entry.0.items entry.1) entries) keeps cached.each in
-      let all : AreHonest (entries_used cache.held cache.keys) =
-      subst (λ (keys : List (List ℕ)). AreHonest (entries_used cache.held keys)) keys (all_honest cache.show cache.held entries honest every) in
+      let all : AreHonest (entries_used (entries_in cache.held) cache.keys) =
+      subst (λ (keys : List (List ℕ)). AreHonest (entries_used (entries_in cache.held) keys)) keys (all_honest cache.show cache.held entries honest every) in
       record {
-        entries = kept (entries_used cache.held cache.keys);
+        entries = kept (entries_used (entries_in cache.held) cache.keys);
         file = left_file (Ok bytes) is;
-        honest = kept_all IsHonest (entries_used cache.held cache.keys) all;
+        honest = kept_all IsHonest (entries_used (entries_in cache.held) cache.keys) all;
       }
   left_honest (Err e) entries cached keys honest is = tt
 
@@ -124,28 +125,28 @@ used_if key found = unwrap_or found (limit_bytes (unit_of key))
 module _ (cache : CachedUnits) (entries : List JudgedEntry)
     (keeps : cache.keeps ≡ true) (keys : keys_in entries ≡ cache.keys) where
   -- What stands at a place, by what the map has there.
-  kept_at : (place : ℕ) → slice_get (entries_kept cache) place ≡ entry_there cache.held (slice_get entries place)
+  kept_at : (place : ℕ) → slice_get (entries_kept cache) place ≡ entry_there (entries_in cache.held) (slice_get entries place)
   kept_at place =
       ap (λ (es : List Entry). slice_get es place) (entries_if cache keeps)
-      ∙ ap (λ (ks : List (List ℕ)). slice_get (entries_used cache.held ks) place) (sym keys)
-      ∙ used_at cache.held (keys_in entries) place
-      ∙ ap (option_map (entry_of cache.held)) (sym (stands_at entries place))
+      ∙ ap (λ (ks : List (List ℕ)). slice_get (entries_used (entries_in cache.held) ks) place) (sym keys)
+      ∙ used_at (entries_in cache.held) (keys_in entries) place
+      ∙ ap (option_map (entry_of (entries_in cache.held))) (sym (stands_at entries place))
 
   kept_some : (place : ℕ) (entry : JudgedEntry) (bytes : List ℕ) → slice_get entries place ≡ Some entry
-      → invariant_used cache.held entry.0.items ≡ bytes
+      → invariant_used (entries_in cache.held) entry.0.items ≡ bytes
       → Some (entry.0.items, bytes) ≡ slice_get (entries_kept cache) place
   kept_some place entry bytes is used =
-      sym (kept_at place ∙ ap (entry_there cache.held) is ∙ ap (λ (b : List ℕ). Some (entry.0.items, b)) used)
+      sym (kept_at place ∙ ap (entry_there (entries_in cache.held)) is ∙ ap (λ (b : List ℕ). Some (entry.0.items, b)) used)
 
   -- The invariant is one that the cache file holds.
   pub kept_held : (place : ℕ) (entry : JudgedEntry) (bytes : List ℕ) → slice_get entries place ≡ Some entry
-      → Some bytes ≡ invariant_of cache.held entry.0.items
+      → Some bytes ≡ invariant_of (entries_in cache.held) entry.0.items
       → Some (entry.0.items, bytes) ≡ slice_get (entries_kept cache) place
   kept_held place entry bytes is held = kept_some place entry bytes is (ap (used_if entry.0.items) (sym held))
 
   -- It is the one that the finder answered.
   pub kept_own : (place : ℕ) (entry : JudgedEntry) → AreCached cache.show cache.keeps cache.held entries
-      → slice_get entries place ≡ Some entry → None ≡ invariant_of cache.held entry.0.items
+      → slice_get entries place ≡ Some entry → None ≡ invariant_of (entries_in cache.held) entry.0.items
       → Some (entry.0.items, entry.1.invariant.items) ≡ slice_get (entries_kept cache) place
   unfolding limit_bytes
   kept_own place entry cached is none =

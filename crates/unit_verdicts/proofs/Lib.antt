@@ -6,3 +6,8 @@ pub mod FoundOf
 pub mod CacheLemmas
 pub mod Honest
 pub mod KeptEntries
+pub mod Stating
+pub mod Printable
+pub mod Spelled
+pub mod Confirming
+pub mod KeptProof

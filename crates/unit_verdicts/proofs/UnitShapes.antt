@@ -16,7 +16,7 @@ same_test P true other exact decides = sym (decides.1 (exact.0 refl))
 same_test P false true exact decides = absurd (false≢true (exact.1 (decides.0 refl)))
 same_test P false false exact decides = refl
 
-shape_is : (code : UnitFlow) (states : List State) (test : Bool) → (IsTrue test ↔ HasShape code states)
+pub shape_is : (code : UnitFlow) (states : List State) (test : Bool) → (IsTrue test ↔ HasShape code states)
     → test ≡ has_shape code states
 shape_is code states test exact = same_test (HasShape code states) test (has_shape code states) exact (shape_decides code states)
 

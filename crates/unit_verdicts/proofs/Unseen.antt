@@ -1,10 +1,12 @@
--- The keys of one method after another, each once, and without those that a cache file has.
+-- The keys of one method after another, each once, and those for which a finder is asked.
 use Rattle.std.proofs.Common.{◌≡◌, ℕ, Bool, true, false, List, [], ◌∷◌, ◌++◌, Option, Some, None, Result, Ok, Err, if◌then◌else◌, refl, sym, ap, subst, ◌∙◌, append_assoc, append-nil}
 use Rattle.std.specs.Prelude.{is_some, not}
 use Rattle.std.proofs.lemmas.List.Elements.{filter-append}
 use Rattle.result_cache.specs.Entries.{Entry, invariant_of, is_among, keys_of}
 use Rattle.result_cache.proofs.HeldLemmas.{found_among}
-use Rattle.unit_verdicts.specs.Asked.{Asks, AsksFront, unseen, without_entry}
+use Rattle.unit_verdicts.specs.Asked.{Asks, AsksFront, asked_from, unseen, without_entry}
+use Rattle.unit_verdicts.specs.declared.source.Source.{Source}
+use Rattle.unit_verdicts.specs.declared.source.Source.TheVariants.{Cache as OfCache, Proof as OfProof}
 use Rattle.unit_verdicts.proofs.Asking.{asks_all, front_behind, front_more}
 
 abbrev Keys : Type 0
@@ -48,17 +50,28 @@ pub without_new : (entries : List Entry) (key : List ℕ) → None ≡ invariant
     → without_entry entries (key ∷ []) ≡ key ∷ []
 without_new entries key is = ap (λ (among : Bool). if not among then key ∷ [] else []) (sym (among_if_held entries key None is))
 
+-- ---- those for which a finder is asked
+
+pub asked_behind : (held : Source) (a b : Keys) → asked_from held (a ++ b) ≡ asked_from held a ++ asked_from held b
+asked_behind (OfCache entries) a b = without_behind entries a b
+asked_behind (OfProof entries) a b = refl
+
+-- Nothing is asked for no keys.
+pub asked_none : (held : Source) → asked_from held [] ≡ []
+asked_none (OfCache entries) = refl
+asked_none (OfProof entries) = refl
+
 -- What is to be asked for some keys, where others were seen.
-abbrev pub new_keys : List Entry → Keys → Keys → Keys
-new_keys entries seen keys = without_entry entries (unseen seen keys)
+abbrev pub new_keys : Source → Keys → Keys → Keys
+new_keys held seen keys = asked_from held (unseen seen keys)
 
 -- What is to be asked for keys after others is so after what the others bring.
-pub new_behind : (entries : List Entry) (seen judged a b : Keys) → judged ≡ seen ++ unseen seen a
-    → new_keys entries seen (a ++ b) ≡ new_keys entries seen a ++ new_keys entries judged b
-new_behind entries seen judged a b brought =
-    ap (without_entry entries) (unseen_behind seen a b)
-    ∙ without_behind entries (unseen seen a) (unseen (seen ++ unseen seen a) b)
-    ∙ ap (λ (s : Keys). new_keys entries seen a ++ new_keys entries s b) (sym brought)
+pub new_behind : (held : Source) (seen judged a b : Keys) → judged ≡ seen ++ unseen seen a
+    → new_keys held seen (a ++ b) ≡ new_keys held seen a ++ new_keys held judged b
+new_behind held seen judged a b brought =
+    ap (asked_from held) (unseen_behind seen a b)
+    ∙ asked_behind held (unseen seen a) (unseen (seen ++ unseen seen a) b)
+    ∙ ap (λ (s : Keys). new_keys held seen a ++ new_keys held s b) (sym brought)
 
 -- What was judged, some keys later.
 pub judged_then : (seen judged new a b : Keys) → judged ≡ seen ++ unseen seen a → new ≡ judged ++ unseen judged b
@@ -70,33 +83,33 @@ judged_then seen judged new a b brought is =
 
 -- ---- what was asked for keys, and then for others
 
-pub front_first : (entries : List Entry) (seen a b old new : Keys) → AsksFront (new_keys entries seen a) old new
-    → AsksFront (new_keys entries seen (a ++ b)) old new
-front_first entries seen a b old new front =
+pub front_first : (held : Source) (seen a b old new : Keys) → AsksFront (new_keys held seen a) old new
+    → AsksFront (new_keys held seen (a ++ b)) old new
+front_first held seen a b old new front =
     let judged = seen ++ unseen seen a in
-    subst (λ (keys : Keys). AsksFront keys old new) (sym (new_behind entries seen judged a b refl))
-    (front_more (new_keys entries seen a) (new_keys entries judged b) old new front)
+    subst (λ (keys : Keys). AsksFront keys old new) (sym (new_behind held seen judged a b refl))
+    (front_more (new_keys held seen a) (new_keys held judged b) old new front)
 
-pub front_then : (entries : List Entry) (seen judged a b old mid new : Keys) → judged ≡ seen ++ unseen seen a
-    → mid ≡ old ++ new_keys entries seen a
-    → AsksFront (new_keys entries judged b) mid new → AsksFront (new_keys entries seen (a ++ b)) old new
-front_then entries seen judged a b old mid new brought asked front =
-    subst (λ (keys : Keys). AsksFront keys old new) (sym (new_behind entries seen judged a b brought))
-    (front_behind (new_keys entries seen a) (new_keys entries judged b) old mid new asked front)
+pub front_then : (held : Source) (seen judged a b old mid new : Keys) → judged ≡ seen ++ unseen seen a
+    → mid ≡ old ++ new_keys held seen a
+    → AsksFront (new_keys held judged b) mid new → AsksFront (new_keys held seen (a ++ b)) old new
+front_then held seen judged a b old mid new brought asked front =
+    subst (λ (keys : Keys). AsksFront keys old new) (sym (new_behind held seen judged a b brought))
+    (front_behind (new_keys held seen a) (new_keys held judged b) old mid new asked front)
 
-pub asked_then : (entries : List Entry) (seen judged a b old mid new : Keys) → judged ≡ seen ++ unseen seen a
-    → mid ≡ old ++ new_keys entries seen a
-    → new ≡ mid ++ new_keys entries judged b → new ≡ old ++ new_keys entries seen (a ++ b)
-asked_then entries seen judged a b old mid new brought asked more =
-    more ∙ ap (λ (l : Keys). l ++ new_keys entries judged b) asked
-    ∙ append_assoc old (new_keys entries seen a) (new_keys entries judged b)
-    ∙ ap (λ (l : Keys). old ++ l) (sym (new_behind entries seen judged a b brought))
+pub asked_then : (held : Source) (seen judged a b old mid new : Keys) → judged ≡ seen ++ unseen seen a
+    → mid ≡ old ++ new_keys held seen a
+    → new ≡ mid ++ new_keys held judged b → new ≡ old ++ new_keys held seen (a ++ b)
+asked_then held seen judged a b old mid new brought asked more =
+    more ∙ ap (λ (l : Keys). l ++ new_keys held judged b) asked
+    ∙ append_assoc old (new_keys held seen a) (new_keys held judged b)
+    ∙ ap (λ (l : Keys). old ++ l) (sym (new_behind held seen judged a b brought))
 
-pub asks_then : {X E : Type 0} (entries : List Entry) (seen judged a b old mid new : Keys) (r : Result X E)
+pub asks_then : {X E : Type 0} (held : Source) (seen judged a b old mid new : Keys) (r : Result X E)
     → judged ≡ seen ++ unseen seen a
-    → mid ≡ old ++ new_keys entries seen a → Asks (new_keys entries judged b) r mid new
-    → Asks (new_keys entries seen (a ++ b)) r old new
-asks_then entries seen judged a b old mid new (Ok x) brought asked asks =
-    asks_all (new_keys entries seen (a ++ b)) (Ok x) old new (asked_then entries seen judged a b old mid new brought asked asks.whole)
-asks_then entries seen judged a b old mid new (Err e) brought asked asks =
-    record { front = front_then entries seen judged a b old mid new brought asked asks.front; whole = tt }
+    → mid ≡ old ++ new_keys held seen a → Asks (new_keys held judged b) r mid new
+    → Asks (new_keys held seen (a ++ b)) r old new
+asks_then held seen judged a b old mid new (Ok x) brought asked asks =
+    asks_all (new_keys held seen (a ++ b)) (Ok x) old new (asked_then held seen judged a b old mid new brought asked asks.whole)
+asks_then held seen judged a b old mid new (Err e) brought asked asks =
+    record { front = front_then held seen judged a b old mid new brought asked asks.front; whole = tt }

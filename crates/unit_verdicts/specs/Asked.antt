@@ -1,6 +1,8 @@
 -- What a finder is asked for. A unit is told by the whole bytes of its file.
 use Rattle.std.specs.Prelude.{◌≡◌, ℕ, not, List, [], ◌∷◌, ◌++◌, filter, Result, IfOk, if◌then◌else◌}
 use Rattle.result_cache.specs.Entries.{Entry, is_among, keys_of}
+use Rattle.unit_verdicts.specs.declared.source.Source.{Source}
+use Rattle.unit_verdicts.specs.declared.source.Source.TheVariants.{Cache as OfCache, Proof as OfProof}
 
 -- ---- each once
 
@@ -15,6 +17,11 @@ distinct keys = unseen [] keys
 -- Those of the keys for which a cache has no entry.
 abbrev pub without_entry : List Entry → List (List ℕ) → List (List ℕ)
 without_entry entries keys = filter (λ key. not (is_among (keys_of entries) key)) keys
+
+-- Those for which a finder is asked where this is held. Over a proof file it is asked for none.
+abbrev pub asked_from : Source → List (List ℕ) → List (List ℕ)
+asked_from (OfCache entries) keys = without_entry entries keys
+asked_from (OfProof entries) keys = []
 
 -- ---- what a finder was asked for
 

@@ -1,4 +1,5 @@
--- The verdicts on the obligations of a unit, and the text of the invariant that they rest on, under any pick of one.
+-- Under which states a unit is judged, and what is reported of it: the verdicts on its obligations, and the text of the
+-- invariant that they rest on.
 use Rattle.std.specs.Prelude.{ℕ, Bool, List, [], Option, Some, None, map, if◌then◌else◌}
 use Rattle.abs_state.specs.StateParts.{StateParts, known_of}
 use Rattle.cil_model.specs.declared.unit.Unit.{Unit as MethodUnit}
@@ -12,6 +13,9 @@ use Rattle.state_facts.specs.StateFacts.{State}
 use Rattle.unit_flow.specs.FlowOf.{flow_of}
 use Rattle.unit_flow.specs.declared.unit_flow.UnitFlow.{UnitFlow}
 use Rattle.unit_form.specs.Spelling.{unit_bytes}
+use Rattle.unit_verdicts.specs.ProvedUnits.{states_for}
+use Rattle.unit_verdicts.specs.declared.source.Source.{Source}
+use Rattle.unit_verdicts.specs.declared.source.Source.TheVariants.{Cache as OfCache, Proof as OfProof}
 use Rattle.widening_engine.specs.Limits.{limit_of}
 
 -- A pick tells for each unit under which states its obligations are judged, one state for each block.
@@ -40,6 +44,18 @@ held_or_limit None unit = limit_pick unit
 -- The pick of what the entries of a cache hold for the whole bytes of a unit, and else of what a finder answers.
 abbrev pub pick_of : List Entry → Pick
 pick_of entries unit = held_or_limit (invariant_of entries (unit_bytes unit)) unit
+
+-- ---- what either holds
+
+-- The pick of what is held.
+abbrev pub pick_from : Source → Pick
+pick_from (OfCache entries) = pick_of entries
+pick_from (OfProof entries) = λ unit. states_for entries (unit_bytes unit)
+
+-- The entries of a cache file. A proof file has none of these.
+abbrev pub entries_in : Source → List Entry
+entries_in (OfCache entries) = entries
+entries_in (OfProof entries) = []
 
 -- ---- what is reported
 

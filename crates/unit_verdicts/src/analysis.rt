@@ -1,21 +1,26 @@
-//! Units, judged under what a finder answers or a cache file holds.
+//! Units, judged under what a finder answers or a file holds.
 
-ghost use Rattle.std.specs.Prelude.{◌≡◌, ◌≤◌, true, [], ◌∷◌, length, IfOk};
+ghost use Rattle.std.specs.Prelude.{◌≡◌, ◌≤◌, false, true, [], ◌∷◌, length, IfOk};
 ghost use Rattle.invariant_codec.specs.Invariants.{IsInvariant};
+ghost use Rattle.invariant_codec.specs.Spellable.{AreSpellable};
 ghost use Rattle.method_unit.specs.Units.{IsUnit};
+ghost use Rattle.result_cache.specs.Entries.{AreShort};
 ghost use Rattle.state_facts.specs.Sizes.{AreSmall};
 ghost use Rattle.unit_flow.specs.Flow.{IsLawful};
 ghost use Rattle.unit_flow.specs.FlowOf.{flow_of};
 ghost use Rattle.unit_form.specs.Spelling.{unit_bytes};
-ghost use Rattle.unit_verdicts.specs.Asked.{Asks};
+ghost use Rattle.unit_verdicts.specs.Asked.{Asks, without_entry};
 ghost use Rattle.unit_verdicts.specs.Picks.{limit_manner, states_in};
-ghost use Rattle.unit_verdicts.specs.VerdictCache.{AreBytesOf};
+ghost use Rattle.unit_verdicts.specs.VerdictCache.{AreBytesOf, IsCached};
 ghost use Rattle.unit_verdicts.specs.Verdicts.{AreVerdictsOf, AreVerdictsUnder};
+ghost use Rattle.unit_verdicts.specs.declared.source.Source.TheVariants.{Cache as OfCache, Proof as OfProof};
 ghost use Rattle.widening_engine.specs.Limits.{limit_of};
 
+use crate::proved_units::ProvedUnits;
 use crate::unit_verdicts::{UnitVerdicts, judge_under};
 use cil_model::{CalleeInfo, List};
 use invariant_codec::{read_states, states_bytes};
+use result_cache::Cache;
 use stack_typer::TypedUnit;
 use std::alloc::{AllocError, Global};
 use transfer_rules::Invariant;
@@ -78,7 +83,7 @@ fn bytes_kept(alloc: Global, invariant: &Invariant, keeps: bool) -> Result<Vec<u
 }
 
 /// Judges a unit under the invariant that the finder answers, and keeps the bytes of that or not.
-pub fn judge_found<D: Finder>(
+fn judge_found<D: Finder>(
     alloc: Global,
     code: &UnitFlow,
     show: bool,
@@ -99,11 +104,28 @@ pub fn judge_found<D: Finder>(
     })
 }
 
+/// Judges a unit under an invariant that a file holds for it. Nothing is kept of that.
+fn judge_stated(
+    alloc: Global,
+    code: &UnitFlow,
+    show: bool,
+    invariant: &Invariant,
+) -> Result<CachedUnit, AllocError>
+    requires { IsLawful code.now }
+    ensures { IfOk result (λ unit. AreVerdictsUnder show code.now invariant.now.states.items unit.found) }
+{
+    Ok(CachedUnit {
+        found: judge_under(alloc, code, invariant, show)?,
+        invariant: Vec::new(alloc),
+    })
+}
+
 /// The invariant that these bytes spell.
-fn read_invariant(alloc: Global, bytes: &[u8]) -> Result<Invariant, AllocError>
+pub fn read_invariant(alloc: Global, bytes: &[u8]) -> Result<Invariant, AllocError>
     requires short { length bytes.now ≤ 2147483647 }
     requires invariant { IsInvariant bytes.now }
-    ensures { IfOk result (λ invariant. invariant.states.items ≡ states_in bytes.now) }
+    ensures value { IfOk result (λ invariant. invariant.states.items ≡ states_in bytes.now) }
+    ensures spellable { IfOk result (λ invariant. AreSpellable invariant.states.items) }
 {
     match read_states(alloc, bytes) {
         Ok(states) => Ok(Invariant { states }),
@@ -113,7 +135,7 @@ fn read_invariant(alloc: Global, bytes: &[u8]) -> Result<Invariant, AllocError>
 }
 
 /// Judges a unit under the invariant that a cache file holds for it.
-pub fn judge_held(
+fn judge_held(
     alloc: Global,
     code: &UnitFlow,
     show: bool,
@@ -125,8 +147,55 @@ pub fn judge_held(
     ensures { IfOk result (λ unit. AreVerdictsUnder show code.now (states_in bytes.now) unit.found) }
 {
     let invariant = read_invariant(alloc, bytes)?;
-    Ok(CachedUnit {
-        found: judge_under(alloc, code, &invariant, show)?,
-        invariant: Vec::new(alloc),
-    })
+    judge_stated(alloc, code, show, &invariant)
+}
+
+/// Judges the unit of these bytes under what a cache file holds for it, or else under what the finder answers.
+pub fn judge_cached<D: Finder>(
+    alloc: Global,
+    code: &UnitFlow,
+    key: &[u8],
+    show: bool,
+    keeps: bool,
+    cache: &Cache,
+    finder: &mut D,
+) -> Result<CachedUnit, AllocError>
+    requires short { AreShort cache.now }
+    requires unit { IsUnit code.now.unit }
+    requires flow { code.now ≡ flow_of code.now.unit }
+    requires key { key.now ≡ unit_bytes code.now.unit }
+    ensures cached { IfOk result (IsCached show keeps (OfCache cache.now) key.now) }
+    ensures asked { Asks (without_entry cache.now (key.now ∷ [])) result (D.asked finder.old) (D.asked finder.new) }
+{
+    match cache.get(key) {
+        Some(bytes) => judge_held(alloc, code, show, bytes),
+        None => judge_found(alloc, code, show, keeps, finder),
+    }
+}
+
+/// Judges the unit of these bytes under what a proof file states of it, or else under the states of no blocks. Nothing is
+/// kept of it.
+pub fn judge_proved(
+    alloc: Global,
+    code: &UnitFlow,
+    key: &[u8],
+    show: bool,
+    proved: &ProvedUnits,
+) -> Result<CachedUnit, AllocError>
+    requires unit { IsUnit code.now.unit }
+    requires flow { code.now ≡ flow_of code.now.unit }
+    requires key { key.now ≡ unit_bytes code.now.unit }
+    ensures { IfOk result (IsCached show false (OfProof proved.now) key.now) }
+{
+    match proved.get(key) {
+        Some(invariant) => judge_stated(alloc, code, show, invariant),
+        None => judge_stated(
+            alloc,
+            code,
+            show,
+            &Invariant {
+                states: Vec::new(alloc),
+            },
+        ),
+    }
 }

@@ -1,7 +1,10 @@
-//! The verdicts on units, under what a cache holds for them or a finder answers.
+//! The verdicts on units, under what a cache or a proof file holds for them or a finder answers.
 #![tactic(auto)]
 
 mod analysis;
+mod proof_left;
+mod proved_units;
+mod source;
 mod unit_verdicts;
 mod verdict_cache;
 

@@ -3,20 +3,29 @@
 ghost use Rattle.std.specs.Prelude.{◌≡◌, ◌++◌, Bool, true, false, [], ◌∷◌, is_some, IfOk, IfSome, OnOk};
 ghost use Rattle.method_unit.specs.UnitFile.{unit_of};
 ghost use Rattle.method_unit.specs.Units.{IsUnit};
+ghost use Rattle.proof_files.specs.Held.{entries_told};
+ghost use Rattle.proof_files.specs.Proofs.{AreEntries};
 ghost use Rattle.result_cache.specs.Entries.{AreShort, is_among};
 ghost use Rattle.result_cache.specs.Spelling.{IsCacheFile, kept};
 ghost use Rattle.unit_flow.specs.FlowOf.{flow_of};
 ghost use Rattle.unit_form.specs.Spelling.{unit_bytes};
 ghost use Rattle.unit_form.specs.declared.form.UnitForm.TheVariants.{Second};
-ghost use Rattle.unit_verdicts.specs.Asked.{Asks, unseen, without_entry};
+ghost use Rattle.unit_verdicts.specs.Asked.{Asks, asked_from, unseen};
 ghost use Rattle.unit_verdicts.specs.CacheFile.{AreHonest, IsHonestFile, cache_left, entries_used};
-ghost use Rattle.unit_verdicts.specs.VerdictCache.{IsCached, manner_of};
+ghost use Rattle.unit_verdicts.specs.Picks.{entries_in};
+ghost use Rattle.unit_verdicts.specs.ProofLeft.{IsProofLeft, proof_left};
+ghost use Rattle.unit_verdicts.specs.VerdictCache.{IsCached, manner_of, proof_units};
 ghost use Rattle.unit_verdicts.specs.Verdicts.{AreVerdictsOf};
+ghost use Rattle.unit_verdicts.specs.declared.source.Source.TheVariants.{Cache as OfCache};
 
-use crate::analysis::{CachedUnit, JudgedUnit, find_flow, judge_found, judge_held};
+use crate::analysis::{CachedUnit, JudgedUnit, find_flow};
+use crate::proof_left::proof_text;
+use crate::proved_units::ProvedUnits;
+use crate::source::Source;
 use crate::unit_verdicts::UnitVerdicts;
 use indexmap::IndexMap;
 use method_unit::unit_bytes;
+use proof_files::ProofEntry;
 use result_cache::{Cache, Entries, cache_bytes};
 use stack_typer::TypedUnit;
 use std::alloc::{AllocError, Global};
@@ -24,14 +33,14 @@ use std::marker::Model;
 use unit_flow::UnitFlow;
 use widening_engine::Finder;
 
-/// The verdicts on each unit that was judged, by the bytes of its file, beside the cache file that was read. Contracts
-/// see the entries of that, the bytes of the units in the order in which they came, whether invariants are shown, and
-/// whether a cache file is to be left.
+/// The verdicts on each unit that was judged, by the bytes of its file, beside what is held of the cache file or proof
+/// file that was read. Contracts see the entries of that, the bytes of the units in the order in which they came, whether
+/// invariants are shown, and whether a file is to be left.
 #[derive(Drop)]
 pub struct VerdictCache {
     show: bool,
     keeps: bool,
-    held: Cache,
+    held: Source,
     judged: IndexMap<Vec<u8>, CachedUnit>,
 }
 
@@ -39,6 +48,11 @@ impl Model for VerdictCache {
     ghost use Rattle.unit_verdicts.specs.VerdictCache.{AreCached, CachedUnits, units_in};
 
     ghost Value = { CachedUnits };
+
+    ghost use Rattle.std.specs.Coded.{codes};
+    ghost use Rattle.unit_verdicts.specs.contracts.source.Source as the_source;
+
+    ghost coded = { Prim.hlevel (codes, the_source.the_row.coded) };
 
     ghost view = { λ cache. units_in cache.show cache.keeps cache.held cache.judged.entries };
 
@@ -50,31 +64,51 @@ impl VerdictCache {
     pub fn none(alloc: Global, show: bool) -> VerdictCache
         ensures show { result.show ≡ show }
         ensures keeps { result.keeps ≡ false }
-        ensures held { result.held ≡ [] }
+        ensures held { result.held ≡ OfCache [] }
         ensures keys { result.keys ≡ [] }
     {
         VerdictCache {
             show,
             keeps: false,
-            held: Cache::none(alloc),
+            held: Source::Cache(Cache::none(alloc)),
             judged: IndexMap::new(alloc),
         }
     }
 
-    /// No unit yet, over what a cache file holds. One is to be left.
-    pub fn over(alloc: Global, show: bool, held: Cache) -> VerdictCache
+    /// No unit yet, over what a cache file holds. Invariants will be kept where a file of them is to be left.
+    pub fn over(alloc: Global, show: bool, keeps: bool, held: Cache) -> VerdictCache
         requires short { AreShort held }
         ensures show { result.show ≡ show }
-        ensures keeps { result.keeps ≡ true }
-        ensures held { result.held ≡ held }
+        ensures keeps { result.keeps ≡ keeps }
+        ensures held { result.held ≡ OfCache held }
         ensures keys { result.keys ≡ [] }
     {
         VerdictCache {
             show,
-            keeps: true,
-            held,
+            keeps,
+            held: Source::Cache(held),
             judged: IndexMap::new(alloc),
         }
+    }
+
+    /// No unit yet, over the entries of a proof file. No invariant will be shown or kept.
+    ///
+    /// # Errors
+    ///
+    /// Want of memory.
+    ///
+    /// Cost: linear in the bytes of the units. No state is copied.
+    pub fn of_proof(alloc: Global, entries: Vec<ProofEntry>) -> Result<VerdictCache, AllocError>
+        requires { AreEntries (entries_told entries.items) }
+        ensures { IfOk result (λ cache. cache ≡ proof_units (entries_told entries.items)) }
+    {
+        let proved = ProvedUnits::of(alloc, entries)?;
+        Ok(VerdictCache {
+            show: false,
+            keeps: false,
+            held: Source::Proof(proved),
+            judged: IndexMap::new(alloc),
+        })
     }
 
     /// Returns whether invariants are shown.
@@ -108,7 +142,7 @@ impl VerdictCache {
         Ok(())
     }
 
-    /// Judges the unit of these bytes under what the cache file holds for it, or else under what the finder answers.
+    /// Judges the unit of these bytes under what is held for it.
     fn judge_code<D: Finder>(
         &self,
         alloc: Global,
@@ -120,13 +154,11 @@ impl VerdictCache {
         requires flow { code.now ≡ flow_of code.now.unit }
         requires key { key.now ≡ unit_bytes code.now.unit }
         ensures cached { IfOk result (IsCached self.now.show self.now.keeps self.now.held key.now) }
-        ensures asked { Asks (without_entry self.now.held (key.now ∷ [])) result
+        ensures asked { Asks (asked_from self.now.held (key.now ∷ [])) result
             (D.asked finder.old) (D.asked finder.new) }
     {
-        match self.held.get(key) {
-            Some(bytes) => judge_held(alloc, code, self.show, bytes),
-            None => judge_found(alloc, code, self.show, self.keeps, finder),
-        }
+        self.held
+            .judge(alloc, code, key, self.show, self.keeps, finder)
     }
 
     /// Judges a unit of these bytes that was not judged before.
@@ -146,7 +178,7 @@ impl VerdictCache {
         ensures show { self.new.show ≡ self.old.show }
         ensures keeps { self.new.keeps ≡ self.old.keeps }
         ensures held { self.new.held ≡ self.old.held }
-        ensures asked { Asks (without_entry self.old.held (key.items ∷ [])) result
+        ensures asked { Asks (asked_from self.old.held (key.items ∷ [])) result
             (D.asked finder.old) (D.asked finder.new) }
     {
         let code = find_flow(alloc, unit)?;
@@ -159,11 +191,12 @@ impl VerdictCache {
         })
     }
 
-    /// Judges a unit: under what the cache file holds for it, or else under what the finder answers. That is asked only
-    /// where no equal unit was judged before.
+    /// Judges a unit: under what the cache file holds for it, or else under what the finder answers, and over a proof
+    /// file under what that states of it, or else under the states of no blocks. The finder is asked only where no equal
+    /// unit was judged before, and over a proof file never.
     ///
     /// Cost: the unit's bytes are kept, with its verdicts, with the text of its invariant where that is shown, and with
-    /// the bytes of it where a cache file is to be left and the one that was read has none.
+    /// the bytes of it where a file is to be left and the cache file that was read has none.
     pub fn judge<D: Finder>(
         &mut self,
         alloc: Global,
@@ -177,7 +210,7 @@ impl VerdictCache {
         ensures show { self.new.show ≡ self.old.show }
         ensures keeps { self.new.keeps ≡ self.old.keeps }
         ensures held { self.new.held ≡ self.old.held }
-        ensures asked { Asks (without_entry self.old.held (unseen self.old.keys (unit_bytes unit ∷ []))) result
+        ensures asked { Asks (asked_from self.old.held (unseen self.old.keys (unit_bytes unit ∷ []))) result
             (D.asked finder.old) (D.asked finder.new) }
     {
         let key = unit_bytes(alloc, unit.unit())?;
@@ -201,15 +234,36 @@ impl VerdictCache {
     /// Cost: linear in the number of bytes. No invariant is copied but to the file.
     pub fn cache_left(&self, alloc: Global) -> Result<Vec<u8>, AllocError>
         requires { self.now.keeps ≡ true }
-        ensures value { IfOk result (λ bytes. bytes.items ≡ cache_left self.now.held self.now.keys) }
+        ensures value { IfOk result (λ bytes. bytes.items ≡ cache_left (entries_in self.now.held) self.now.keys) }
         // It is a cache file, which can be read.
         ensures file { IfOk result
-            (λ bytes. IsCacheFile Second (kept (entries_used self.now.held self.now.keys)) bytes.items) }
+            (λ bytes. IsCacheFile Second (kept (entries_used (entries_in self.now.held) self.now.keys)) bytes.items) }
         // It is honest where the one that was read was.
-        ensures honest { AreHonest self.now.held → IfOk result (λ bytes. IsHonestFile bytes.items) }
+        ensures honest { AreHonest (entries_in self.now.held) → IfOk result (λ bytes. IsHonestFile bytes.items) }
     {
         let _ = &self.judged;
         cache_bytes(alloc, self)
+    }
+
+    /// The proof file to be left: the units that were judged, in the order in which they came, each with the invariant
+    /// under which it was judged, where that has its shape, up to the first with which the file would have more than
+    /// 67,108,864 bytes.
+    ///
+    /// # Errors
+    ///
+    /// Want of memory.
+    ///
+    /// Cost: linear in the bytes of the units and of their invariants and in the file, and what the flow of each unit
+    /// takes. Units and invariants are read again of their bytes, one after another.
+    pub fn proof_left(&self, alloc: Global) -> Result<Vec<u8>, AllocError>
+        requires { self.now.keeps ≡ true }
+        ensures value { IfOk result (λ bytes. bytes.items ≡ proof_left self.now.held self.now.keys) }
+        // It can be read, and the verdicts under it are those of this call.
+        ensures left { IfOk result (λ _. IsProofLeft self.now.held self.now.keys) }
+    {
+        let _ = &self.judged;
+        let text = proof_text(alloc, self)?;
+        Ok(text.into_bytes())
     }
 }
 
@@ -229,7 +283,7 @@ impl Entries for VerdictCache {
         let Some((key, unit)) = self.judged.get_index(place) else {
             return None;
         };
-        match self.held.get(key) {
+        match self.held.cached(key) {
             Some(invariant) => Some((key.as_slice(), invariant)),
             None => Some((key.as_slice(), unit.invariant.as_slice())),
         }

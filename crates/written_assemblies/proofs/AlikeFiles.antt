@@ -1,8 +1,10 @@
 -- Plans that have one value have one file.
-use Rattle.std.proofs.Common.{◌≡◌, ℕ, zero, suc, ◌+◌, List, [], ◌∷◌, ◌++◌, map, length, take, Bool, refl, ap, ◌∙◌, if◌then◌else◌}
+use Rattle.std.proofs.Common.{◌≡◌, ℕ, zero, suc, ◌+◌, List, [], ◌∷◌, ◌++◌, map, length, take, Bool, refl, sym, ap, ◌∙◌, if◌then◌else◌}
 use mathlib.Core.Path.{fun_ext}
 use Rattle.std.specs.Prelude.{codes}
 use Rattle.std.specs.List.{flat_map, sum_by}
+use Rattle.std.specs.Str.{bytes_eq}
+use Rattle.std.proofs.lemmas.List.{length-map}
 use Rattle.cc_base.specs.Tokens.{token_of}
 use Rattle.std.proofs.lemmas.List.Sums.{sum_by-cons}
 use Rattle.asm_writer.specs.declared.layout.Layout.{Layout}
@@ -11,17 +13,19 @@ use Rattle.asm_writer.specs.declared.plan.MethodPlan.{MethodPlan}
 use Rattle.asm_writer.specs.declared.table.Table.{Table}
 use Rattle.asm_writer.specs.declared.table.Table.TheVariants as tables
 use Rattle.asm_writer.specs.declared.field.Field.TheVariants as fields
+use Rattle.asm_writer.specs.declared.name.ExternPart.TheVariants as parts
 use Rattle.asm_writer.specs.declared.name.Name.{Name}
 use Rattle.asm_writer.specs.declared.name.Name.TheVariants as names
 use Rattle.asm_writer.specs.declared.number.Number.TheVariants.{Two, Four}
-use Rattle.asm_writer.specs.Assembly.{section, section_of, assembly_bytes}
+use Rattle.asm_writer.specs.Assembly.{section, section_of, linked_bytes, assembly_bytes}
 use Rattle.asm_writer.specs.Blobs.{blob_heap, blob_item, cited_blobs, method_blob_items}
 use Rattle.asm_writer.specs.Bodies.{bodies, body, body_item, has_items, locals_row, locals_rows}
 use Rattle.asm_writer.specs.Each.{each_from}
 use Rattle.asm_writer.specs.Headers.{headers}
 use Rattle.asm_writer.specs.Layout.{layout_of, rows_bytes}
+use Rattle.asm_writer.specs.Linked.{alone}
 use Rattle.asm_writer.specs.Metadata.{joined, metadata, root, root_size, streams}
-use Rattle.asm_writer.specs.Names.{cited_names, method_name_item, name_item, name_text, strings_heap, zero_ended}
+use Rattle.asm_writer.specs.Names.{cited_names, extern_name_index, method_name_item, name_index, name_item, name_text, own_name_index, own_name_items, strings_heap, zero_ended}
 use Rattle.asm_writer.specs.Numbers.{numbers_bytes, numbers_width}
 use Rattle.asm_writer.specs.Packing.{packed, filled}
 use Rattle.asm_writer.specs.Padding.{fill, padded}
@@ -130,26 +134,26 @@ method_rows_alike index m n e =
 locals_rows_alike : Agree (rows_of_method tables.StandAloneSig) (rows_of_method tables.StandAloneSig)
 locals_rows_alike index m n e = ap (λ (v : Method). if has_items v.locals then locals_fields index ∷ [] else []) e
 
-table_rows_alike : (ms ns : List MethodPlan) → Alike ms ns → (table : Table) → table_rows ms table ≡ table_rows ns table
-table_rows_alike ms ns e tables.MethodDef = each_alike _ _ method_rows_alike 0 ms ns e
-table_rows_alike ms ns e tables.StandAloneSig = each_alike _ _ locals_rows_alike 0 ms ns e
-table_rows_alike ms ns e tables.Module = refl
-table_rows_alike ms ns e tables.TypeRef = refl
-table_rows_alike ms ns e tables.TypeDef = refl
-table_rows_alike ms ns e tables.Field = refl
-table_rows_alike ms ns e tables.Param = refl
-table_rows_alike ms ns e tables.MemberRef = refl
-table_rows_alike ms ns e tables.ModuleRef = refl
-table_rows_alike ms ns e tables.TypeSpec = refl
-table_rows_alike ms ns e tables.Assembly = refl
-table_rows_alike ms ns e tables.AssemblyRef = refl
-table_rows_alike ms ns e tables.MethodSpec = refl
+table_rows_alike : (ms ns : List MethodPlan) (externs : ℕ) → Alike ms ns → (table : Table) → table_rows ms externs table ≡ table_rows ns externs table
+table_rows_alike ms ns externs e tables.MethodDef = each_alike _ _ method_rows_alike 0 ms ns e
+table_rows_alike ms ns externs e tables.StandAloneSig = each_alike _ _ locals_rows_alike 0 ms ns e
+table_rows_alike ms ns externs e tables.Module = refl
+table_rows_alike ms ns externs e tables.TypeRef = refl
+table_rows_alike ms ns externs e tables.TypeDef = refl
+table_rows_alike ms ns externs e tables.Field = refl
+table_rows_alike ms ns externs e tables.Param = refl
+table_rows_alike ms ns externs e tables.MemberRef = refl
+table_rows_alike ms ns externs e tables.ModuleRef = refl
+table_rows_alike ms ns externs e tables.TypeSpec = refl
+table_rows_alike ms ns externs e tables.Assembly = refl
+table_rows_alike ms ns externs e tables.AssemblyRef = refl
+table_rows_alike ms ns externs e tables.MethodSpec = refl
 
 stream_alike : (l : Layout) (ms ns : List MethodPlan) → Alike ms ns → tables_stream l ms ≡ tables_stream l ns
 unfolding tables_stream
 stream_alike l ms ns e =
     ap (λ (rows : List ℕ). padded 4 (numbers_bytes (stream_numbers l) ++ flat_map (count_bytes l) all_tables ++ rows))
-    (ap (λ (f : Table → List ℕ). flat_map f all_tables) (fun_ext (λ (table : Table). ap (rows_bytes l) (table_rows_alike ms ns e table))))
+    (ap (λ (f : Table → List ℕ). flat_map f all_tables) (fun_ext (λ (table : Table). ap (rows_bytes l) (table_rows_alike ms ns l.externs e table))))
 
 metadata_alike : (l : Layout) (ms ns : List MethodPlan) → Alike ms ns → metadata l ms ≡ metadata l ns
 unfolding metadata
@@ -178,33 +182,50 @@ names_of p q e names.Class = ap (λ (v : Plan). v.class) e
 names_of p q e names.Namespace = ap (λ (v : Plan). v.namespace) e
 names_of p q e names.File = ap (λ (v : Plan). v.class ++ codes ".dll") e
 
-strings_alike : (p q : AsmPlan) → value p ≡ value q → strings_heap p ≡ strings_heap q
+own_name_alike : (p q : AsmPlan) → value p ≡ value q → own_name_items p p.class.items ≡ own_name_items q q.class.items
+unfolding own_name_items
+own_name_alike p q e = ap (λ (v : Plan). if bytes_eq v.class v.class then [] else zero_ended v.class ∷ []) e
+
+methods_long : (ms : List MethodPlan) → length ms ≡ length (map method_value ms)
+methods_long ms = sym (length-map ms method_value)
+
+own_index_alike : (p q : AsmPlan) → value p ≡ value q → own_name_index (alone p) ≡ own_name_index (alone q)
+unfolding own_name_index
+own_index_alike p q e =
+    let long : length p.methods.items ≡ length q.methods.items = methods_long p.methods.items ∙ ap (λ (v : Plan). length v.methods) e ∙ sym (methods_long q.methods.items) in
+    ap (λ (v : Plan). if bytes_eq v.class v.class then name_index names.Class else extern_name_index (length p.methods.items) 0 parts.Assembly) e
+    ∙ ap (λ (n : ℕ). if bytes_eq q.class.items q.class.items then name_index names.Class else extern_name_index n 0 parts.Assembly) long
+
+strings_alike : (p q : AsmPlan) → value p ≡ value q → strings_heap (alone p) ≡ strings_heap (alone q)
 unfolding strings_heap
 strings_alike p q e =
     let cited = ap (λ (f : Name → List ℕ). map f cited_names) (fun_ext (λ (name : Name). ap zero_ended (names_of p q e name))) in
     let own = map_alike method_name_item name_alike p.methods.items q.methods.items (ap (λ (v : Plan). v.methods) e) in
-    ap (λ (items : List (List ℕ)). filled (packed items)) (ap (λ (front : List (List ℕ)). front ++ map method_name_item p.methods.items) cited ∙ ap (λ (rest : List (List ℕ)). map (name_item q) cited_names ++ rest) own)
+    ap (λ (items : List (List ℕ)). filled (packed items))
+    (ap (λ (front : List (List ℕ)). front ++ map method_name_item p.methods.items ++ [] ++ own_name_items p p.class.items) cited
+    ∙ ap (λ (rest : List (List ℕ)). map (name_item q) cited_names ++ rest ++ [] ++ own_name_items p p.class.items) own
+    ∙ ap (λ (last : List (List ℕ)). map (name_item q) cited_names ++ map method_name_item q.methods.items ++ [] ++ last) (own_name_alike p q e))
 
-blob_heap_alike : (ms ns : List MethodPlan) → Alike ms ns → blob_heap ms ≡ blob_heap ns
+blob_heap_alike : (ms ns : List MethodPlan) → Alike ms ns → blob_heap ms [] ≡ blob_heap ns []
 unfolding blob_heap
 blob_heap_alike ms ns e =
-    ap (λ (own : List (List ℕ)). filled (packed (map blob_item cited_blobs ++ own))) (flat_map_alike method_blob_items blobs_alike ms ns e)
+    ap (λ (own : List (List ℕ)). filled (packed (map blob_item cited_blobs ++ own ++ []))) (flat_map_alike method_blob_items blobs_alike ms ns e)
 
-layout_alike : (p q : AsmPlan) → value p ≡ value q → layout_of p ≡ layout_of q
+layout_alike : (p q : AsmPlan) → value p ≡ value q → layout_of (alone p) ≡ layout_of (alone q)
 layout_alike p q e =
     let own = ap (λ (v : Plan). v.methods) e in
     let ms = p.methods.items in
     let ns = q.methods.items in
-    rw (strings_alike p q e, blob_heap_alike ms ns own, bodies_alike ms ns own, table_rows_alike ms ns own tables.MethodDef, table_rows_alike ms ns own tables.StandAloneSig) refl
+    rw (strings_alike p q e, blob_heap_alike ms ns own, bodies_alike ms ns own, table_rows_alike ms ns 0 own tables.MethodDef, table_rows_alike ms ns 0 own tables.StandAloneSig, own_index_alike p q e) refl
 
-section_alike : (p q : AsmPlan) → value p ≡ value q → section_of p ≡ section_of q
+section_alike : (p q : AsmPlan) → value p ≡ value q → section_of (alone p) ≡ section_of (alone q)
 section_alike p q e =
     ap (λ (l : Layout). section l.bodies.bytes (metadata l p.methods.items)) (layout_alike p q e)
-    ∙ ap (section (layout_of q).bodies.bytes) (metadata_alike (layout_of q) p.methods.items q.methods.items (ap (λ (v : Plan). v.methods) e))
+    ∙ ap (section (layout_of (alone q)).bodies.bytes) (metadata_alike (layout_of (alone q)) p.methods.items q.methods.items (ap (λ (v : Plan). v.methods) e))
 
 -- Plans of one value have one file.
 pub file_alike : (p q : AsmPlan) → value p ≡ value q → assembly_bytes p ≡ assembly_bytes q
-unfolding assembly_bytes
+unfolding assembly_bytes linked_bytes
 file_alike p q e =
-    ap (λ (wide : Bool). headers wide (length (section_of p)) ++ section_of p) (ap (λ (v : Plan). v.wide) e)
+    ap (λ (wide : Bool). headers wide (length (section_of (alone p))) ++ section_of (alone p)) (ap (λ (v : Plan). v.wide) e)
     ∙ ap (λ (part : List ℕ). headers q.wide (length part) ++ part) (section_alike p q e)

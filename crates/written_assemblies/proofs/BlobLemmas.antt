@@ -20,7 +20,7 @@ use Rattle.signature_blobs.specs.declared.local.LocalSig.TheVariants as locals
 use Rattle.signature_blobs.proofs.SignatureLaws.{method_read, local_read}
 use Rattle.asm_writer.specs.declared.plan.MethodPlan.{MethodPlan}
 use Rattle.asm_writer.specs.Signatures as written
-use Rattle.asm_writer.specs.Signatures.{compressed, type_bytes, convention, signature, blob}
+use Rattle.asm_writer.specs.Signatures.{compressed, type_bytes, convention, signature, signature_of, blob}
 
 -- ---- a number before its bytes
 
@@ -74,33 +74,42 @@ convention_is : (is_static : Bool) → (convention is_static % 16 ≡ 0) × (has
 convention_is true = (refl, refl, refl)
 convention_is false = (refl, refl, refl)
 
-spells_method : (m : MethodPlan) → length m.args.items ≤ MAX_VARIABLES → AreValues m.args.items
-    → SpellsMethod (not m.is_static) false (record { result = m.result; args = m.args.items }) (signature m)
-unfolding signature
-spells_method m few values = record {
-  convention = convention m.is_static;
-  behind = compressed (length m.args.items) ++ type_bytes m.result ++ flat_map type_bytes m.args.items;
-  default = (convention_is m.is_static).0;
-  this_is = (convention_is m.is_static).1;
-  generic_is = (convention_is m.is_static).2;
+spells_method : (is_static : Bool) (gives : Place) (args : List Place) → length args ≤ MAX_VARIABLES → AreValues args
+    → SpellsMethod (not is_static) false (record { result = gives; args = args }) (signature_of is_static gives args)
+spells_method is_static gives args few values = record {
+  convention = convention is_static;
+  behind = compressed (length args) ++ type_bytes gives ++ flat_map type_bytes args;
+  default = (convention_is is_static).0;
+  this_is = (convention_is is_static).1;
+  generic_is = (convention_is is_static).2;
   types = record {
     type_count = [];
-    count = compressed (length m.args.items);
+    count = compressed (length args);
     type_counted = refl;
-    counted = record { number = spells (length m.args.items) (omega (arith, few)); few = few; values = values };
+    counted = record { number = spells (length args) (omega (arith, few)); few = few; values = values };
     parts =
-        append_assoc (compressed (length m.args.items)) (type_bytes m.result) (flat_map type_bytes m.args.items)
-        ∙ ap₂ (λ (a b : List ℕ). compressed (length m.args.items) ++ (a ++ b)) (type_same m.result) (types_same m.args.items);
+        append_assoc (compressed (length args)) (type_bytes gives) (flat_map type_bytes args)
+        ∙ ap₂ (λ (a b : List ℕ). compressed (length args) ++ (a ++ b)) (type_same gives) (types_same args);
   };
   parts = refl;
 }
 
--- What is read of a method's signature.
+-- What is read of a signature.
+pub signature_of_back : (is_static : Bool) (gives : Place) (args : List Place) → length args ≤ MAX_VARIABLES → AreValues args
+    → method_signature (signature_of is_static gives args) ≡ Ok (record { has_this = not is_static; generic = false; types = Known (record { result = gives; args = args }) })
+signature_of_back is_static gives args few values =
+    method_read (signature_of is_static gives args) (not is_static) false (record { result = gives; args = args })
+    (record {
+      front = signature_of is_static gives args;
+      rest = [];
+      holds = spells_method is_static gives args few values;
+      parts = sym (append-nil (signature_of is_static gives args));
+    })
+
 pub signature_back : (m : MethodPlan) → length m.args.items ≤ MAX_VARIABLES → AreValues m.args.items
     → method_signature (signature m) ≡ Ok (record { has_this = not m.is_static; generic = false; types = Known (record { result = m.result; args = m.args.items }) })
-signature_back m few values =
-    method_read (signature m) (not m.is_static) false (record { result = m.result; args = m.args.items })
-    (record { front = signature m; rest = []; holds = spells_method m few values; parts = sym (append-nil (signature m)) })
+unfolding signature
+signature_back m few values = signature_of_back m.is_static m.result m.args.items few values
 
 -- ---- that of its locals
 
@@ -146,15 +155,18 @@ count_short : (n : ℕ) → length (compressed n) ≤ 2
 unfolding compressed
 count_short n = either_short n (nat_lt n 0x80)
 
+pub signature_of_short : (is_static : Bool) (gives : Place) (args : List Place) → length args ≤ MAX_VARIABLES → length (signature_of is_static gives args) < 2 ^ 14
+signature_of_short is_static gives args few =
+    let count = count_short (length args) in
+    let result = type_short gives in
+    let types = types_short args in
+    let all = length-append (compressed (length args) ++ type_bytes gives) (flat_map type_bytes args) in
+    let front = length-append (compressed (length args)) (type_bytes gives) in
+    omega (arith, count, result, types, all, front, few)
+
 pub signature_short : (m : MethodPlan) → length m.args.items ≤ MAX_VARIABLES → length (signature m) < 2 ^ 14
 unfolding signature
-signature_short m few =
-    let count = count_short (length m.args.items) in
-    let result = type_short m.result in
-    let args = types_short m.args.items in
-    let all = length-append (compressed (length m.args.items) ++ type_bytes m.result) (flat_map type_bytes m.args.items) in
-    let front = length-append (compressed (length m.args.items)) (type_bytes m.result) in
-    omega (arith, count, result, args, all, front, few)
+signature_short m few = signature_of_short m.is_static m.result m.args.items few
 
 pub locals_short : (ps : List Place) → length ps ≤ MAX_VARIABLES → length (written.local_signature ps) < 2 ^ 14
 unfolding written.local_signature

@@ -10,20 +10,20 @@ use Rattle.pe_reader.specs.Addresses.{bytes_at}
 use Rattle.il_decoder.specs.declared.body.Header.{Header}
 use Rattle.il_decoder.specs.Body.{fat_header, header_from, header_at, code_at, body_code}
 use Rattle.asm_image.specs.Tokens.{locals_of}
-use Rattle.asm_writer.specs.declared.plan.AsmPlan.{AsmPlan}
+use Rattle.asm_writer.specs.Linked.{Linked}
 use Rattle.asm_writer.specs.declared.plan.MethodPlan.{MethodPlan}
-use Rattle.asm_writer.specs.Assembly.{section, assembly_bytes}
+use Rattle.asm_writer.specs.Assembly.{section, linked_bytes}
 use Rattle.asm_writer.specs.Bodies.{has_locals, locals_row, locals_token, body_header, body, bodies}
 use Rattle.asm_writer.specs.Headers.{bodies_rva}
 use Rattle.asm_writer.specs.Numbers.{numbers_bytes, numbers_width}
 use Rattle.asm_writer.specs.Padding.{fill}
-use Rattle.asm_writer.specs.Sizes.{fits}
+use Rattle.asm_writer.specs.Sizes.{linked_fits}
 use Rattle.asm_writer.proofs.Lengths.{length_numbers, too_many}
 use Rattle.written_assemblies.specs.BodiesRead.{IsMethodAt, ReadsBody}
 use Rattle.written_assemblies.specs.Methods.{body_rva}
 use Rattle.written_assemblies.specs.Parts.{Stands}
 use Rattle.written_assemblies.specs.Readable.{IsReadable}
-use Rattle.written_assemblies.specs.Written.{written_metadata}
+use Rattle.written_assemblies.specs.Written.{linked_metadata}
 use Rattle.written_assemblies.proofs.PartLemmas.{stands_within, stands_drop, stands_reach}
 use Rattle.written_assemblies.proofs.SectionLemmas.{place_there}
 use Rattle.written_assemblies.proofs.HeaderLemmas.{only_section}
@@ -31,7 +31,7 @@ use Rattle.written_assemblies.proofs.ImageLemmas.{file_of, stands_bodies, sectio
 use Rattle.written_assemblies.proofs.LayoutLemmas.{body_stands}
 use Rattle.written_assemblies.proofs.LocalsLemmas.{locals_are, few_rows}
 use Rattle.written_assemblies.proofs.ReadLemmas.{few_variables_at, few_code_at}
-use Rattle.written_assemblies.proofs.PlanLemmas.{few_in_file, some_metadata, metadata_laid, file_is, plan_metadata}
+use Rattle.written_assemblies.proofs.PlanLemmas.{few_in_file, some_metadata, metadata_laid, file_is, source_metadata}
 use Rattle.written_assemblies.proofs.WholeLemmas.{is_taken}
 
 -- The bytes at the address of a part of the bodies, as many as the part has or fewer.
@@ -120,44 +120,44 @@ token_small : (row : ℕ) (m : MethodPlan) (has : Bool) → has_locals m ≡ has
 token_small row m true has few = rw has (omega (arith, few))
 token_small row m false none few = rw none (omega arith)
 
-few_methods : (plan : AsmPlan) → IsTrue (fits plan) → length plan.methods.items < 2 ^ 24
-few_methods plan fit =
-    elim (cases_lt (length plan.methods.items) (2 ^ 24)) [
+few_methods : (source : Linked) → IsTrue (linked_fits source) → length source.plan.methods.items < 2 ^ 24
+few_methods source fit =
+    elim (cases_lt (length source.plan.methods.items) (2 ^ 24)) [
       | inl few ↦ few
-      | inr many ↦ let no = too_many plan many in absurd cc
+      | inr many ↦ let no = too_many source many in absurd cc
     ]
 
 rva_same : (offset : ℕ) → bodies_rva + offset ≡ 0x2000 + (72 + offset)
 unfolding numbers_width
 rva_same offset = omega arith
 
-body_reads : (plan : AsmPlan) (index : ℕ) (m : MethodPlan) → IsTrue (fits plan) → IsReadable plan → IsMethodAt plan index m → ReadsBody plan (assembly_bytes plan) index m
+body_reads : (source : Linked) (index : ℕ) (m : MethodPlan) → IsTrue (linked_fits source) → IsReadable source.plan → IsMethodAt source.plan index m → ReadsBody source.plan (linked_bytes source) index m
 unfolding body_rva numbers_width
-body_reads plan index m fit readable at =
-    let t = is_taken plan fit readable in
-    let ms = plan.methods.items in
+body_reads source index m fit readable at =
+    let t = is_taken source fit readable in
+    let ms = source.plan.methods.items in
     let row : ℕ = locals_row ms index in
-    let few = subst (λ (b : List ℕ). length b < 2 ^ 31) (file_is plan) (few_in_file plan fit) in
-    let some = some_metadata plan in
-    let methods = few_methods plan fit in
+    let few = subst (λ (b : List ℕ). length b < 2 ^ 31) (file_is source) (few_in_file source fit) in
+    let some = some_metadata source in
+    let methods = few_methods source fit in
     let rows = few_rows ms index at.0 in
-    let variables = few_variables_at plan index m t at.0 at.1 in
-    let code = few_code_at plan index m t at.0 at.1 in
+    let variables = few_variables_at source index m t at.0 at.1 in
+    let code = few_code_at source index m t at.0 at.1 in
     let room = body_room row m in
     let stands = body_stands ms index m at.0 at.1 in
     let within = at.0 in
     let token = token_small row m (has_locals m) refl (omega (arith, methods, rows, within)) in
     let there = λ (len : ℕ) (fitting : len ≤ length (body row m)).
-    ap (λ (file : List ℕ). bytes_at file (bodies_rva + slice_index (bodies ms).offsets index) len) (file_is plan)
-    ∙ ap (λ (rva : ℕ). bytes_at (file_of plan.wide (bodies ms).bytes (written_metadata plan)) rva len) (rva_same (slice_index (bodies ms).offsets index))
-    ∙ part_at plan.wide (bodies ms).bytes (written_metadata plan) (body row m) (slice_index (bodies ms).offsets index) len few some stands fitting in
-    let header = header_there (assembly_bytes plan) (bodies_rva + slice_index (bodies ms).offsets index) row m (omega (arith, variables)) (omega (arith, code)) token (there 1 (omega (arith, room))) (there 12 (omega (arith, room))) in
+    ap (λ (file : List ℕ). bytes_at file (bodies_rva + slice_index (bodies ms).offsets index) len) (file_is source)
+    ∙ ap (λ (rva : ℕ). bytes_at (file_of source.plan.wide (bodies ms).bytes (linked_metadata source)) rva len) (rva_same (slice_index (bodies ms).offsets index))
+    ∙ part_at source.plan.wide (bodies ms).bytes (linked_metadata source) (body row m) (slice_index (bodies ms).offsets index) len few some stands fitting in
+    let header = header_there (linked_bytes source) (bodies_rva + slice_index (bodies ms).offsets index) row m (omega (arith, variables)) (omega (arith, code)) token (there 1 (omega (arith, room))) (there 12 (omega (arith, room))) in
     record {
       header = header;
-      code = code_there (assembly_bytes plan) (bodies_rva + slice_index (bodies ms).offsets index) row m header (there (12 + length m.code.items) room);
-      locals = ap (λ (md : List ℕ). locals_of md (locals_token row m)) (plan_metadata plan (assembly_bytes plan) fit refl ∙ metadata_laid plan) ∙ locals_are plan index m t at.0 at.1 methods;
+      code = code_there (linked_bytes source) (bodies_rva + slice_index (bodies ms).offsets index) row m header (there (12 + length m.code.items) room);
+      locals = ap (λ (md : List ℕ). locals_of md (locals_token row m)) (source_metadata source (linked_bytes source) fit refl ∙ metadata_laid source) ∙ locals_are source index m t at.0 at.1 methods;
     }
 
 -- The body of each method stands in the file, with its locals.
-pub whole_bodies : (plan : AsmPlan) (bytes : List ℕ) (index : ℕ) (m : MethodPlan) → IsTrue (fits plan) → IsReadable plan → bytes ≡ assembly_bytes plan → IsMethodAt plan index m → ReadsBody plan bytes index m
-whole_bodies plan bytes index m fit readable is at = subst (λ (b : List ℕ). ReadsBody plan b index m) (sym is) (body_reads plan index m fit readable at)
+pub whole_bodies : (source : Linked) (bytes : List ℕ) (index : ℕ) (m : MethodPlan) → IsTrue (linked_fits source) → IsReadable source.plan → bytes ≡ linked_bytes source → IsMethodAt source.plan index m → ReadsBody source.plan bytes index m
+whole_bodies source bytes index m fit readable is at = subst (λ (b : List ℕ). ReadsBody source.plan b index m) (sym is) (body_reads source index m fit readable at)

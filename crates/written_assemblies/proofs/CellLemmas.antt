@@ -58,11 +58,11 @@ column_in l before f after = record {
 pub cell_is : (l : Layout) (ms : List MethodPlan) (number row : ℕ) (before : List Field) (f : Field) (after : List Field) (column : Column) (v : ℕ) → IsSound l ms
     → map column_of before ≡ map Some (take (length before) (columns_of number))
     → column_of f ≡ Some column → slice_index_or (columns_of number) (length before) columns.Two ≡ column
-    → Stands (fields_bytes l (before ++ f ∷ after)) (md_of l ms) (base (md_of l ms) number + (row - 1) * read_width (counts_of l.methods l.locals) (written.heap_sizes l) number)
+    → Stands (fields_bytes l (before ++ f ∷ after)) (md_of l ms) (base (md_of l ms) number + (row - 1) * read_width (counts_of l.methods l.locals l.externs) (written.heap_sizes l) number)
     → Says (field_number l f) v → cell (md_of l ms) number row (length before) ≡ v
 unfolding cell cell_at column_width column_offset
 cell_is l ms number row before f after column v s fronts is here stands says =
-    let offset : row_width l before ≡ total_width (counts_of l.methods l.locals) (written.heap_sizes l) (take (length before) (columns_of number)) = widths_are l before _ fronts in
-    let wide : number_width (field_number l f) ≡ width (counts_of l.methods l.locals) (written.heap_sizes l) column = subst (λ (c : Option Column). HasWidth l f c) is (has_width l f) in
+    let offset : row_width l before ≡ total_width (counts_of l.methods l.locals l.externs) (written.heap_sizes l) (take (length before) (columns_of number)) = widths_are l before _ fronts in
+    let wide : number_width (field_number l f) ≡ width (counts_of l.methods l.locals l.externs) (written.heap_sizes l) column = subst (λ (c : Option Column). HasWidth l f c) is (has_width l f) in
     let at = stands_within _ _ _ _ _ (column_in l before f after) stands in
     rw (counts_are l ms s, sizes_are l ms s, here, sym wide, sym offset) (number_read (field_number l f) v (md_of l ms) _ says at)

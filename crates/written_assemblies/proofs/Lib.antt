@@ -18,6 +18,8 @@ pub mod MethodLemmas
 pub mod ReadLemmas
 pub mod LocalsLemmas
 pub mod PlanLemmas
+pub mod ExternLemmas
+pub mod AloneLemmas
 pub mod WholeLemmas
 pub mod BodyLemmas
 pub mod GeneratedLemmas

@@ -18,7 +18,7 @@ use Rattle.signature_blobs.specs.declared.local.LocalSig.TheVariants.{Known}
 use Rattle.asm_image.specs.Tokens.{row_in, faultless, locals_at, locals_of}
 use Rattle.asm_writer.specs.declared.field.Field.{Field}
 use Rattle.asm_writer.specs.declared.field.Field.TheVariants as fields
-use Rattle.asm_writer.specs.declared.plan.AsmPlan.{AsmPlan}
+use Rattle.asm_writer.specs.Linked.{Linked}
 use Rattle.asm_writer.specs.declared.plan.MethodPlan.{MethodPlan}
 use Rattle.asm_writer.specs.declared.table.Table.TheVariants as tables
 use Rattle.asm_writer.specs.Blobs.{locals_index}
@@ -87,18 +87,18 @@ row_there index (first ∷ ms) (suc i) m within is has =
     omega (arith, rest, size, one, sum)
 
 -- The cell of its row.
-locals_cell : (plan : AsmPlan) (i : ℕ) (m : MethodPlan) → Sound plan → i < length plan.methods.items → get_or plan.methods.items i m ≡ m → has_locals m ≡ true
-    → cell (md_for plan) 17 (locals_row plan.methods.items i) 0 ≡ slice_index (layout_of plan).blobs.offsets (locals_index i)
+locals_cell : (source : Linked) (i : ℕ) (m : MethodPlan) → Sound source → i < length source.plan.methods.items → get_or source.plan.methods.items i m ≡ m → has_locals m ≡ true
+    → cell (md_for source) 17 (locals_row source.plan.methods.items i) 0 ≡ slice_index (layout_of source).blobs.offsets (locals_index i)
 unfolding columns_of
-locals_cell plan i m s within is has =
-    let l = layout_of plan in
-    let ms = plan.methods.items in
+locals_cell source i m s within is has =
+    let l = layout_of source in
+    let ms = source.plan.methods.items in
     let same : 0 + i ≡ i = omega arith in
-    let row : get_or (table_rows ms tables.StandAloneSig) (sum_by locals_rows (take i ms)) [] ≡ locals_fields i = row_found 0 ms i m within is has ∙ ap locals_fields same in
-    let here = table_row plan tables.StandAloneSig (sum_by locals_rows (take i ms)) (locals_fields i) s (tables_stand.locals_stand l ms s.counts) (row_there 0 ms i m within is has) row in
-    let end = stands_reach _ _ _ (locals_stand ms i m within is) in
+    let row : get_or (table_rows ms (length source.externs) tables.StandAloneSig) (sum_by locals_rows (take i ms)) [] ≡ locals_fields i = row_found 0 ms i m within is has ∙ ap locals_fields same in
+    let here = table_row source tables.StandAloneSig (sum_by locals_rows (take i ms)) (locals_fields i) s (tables_stand.locals_stand l ms s.counts) (row_there 0 ms i m within is has) row in
+    let end = stands_reach _ _ _ (locals_stand ms source.externs i m within is) in
     cell_is l ms 17 (sum_by locals_rows (take i ms) + 1) [] (fields.MethodLocals i) [] columns.Blob _ s refl refl refl here
-    (index_says (is_wide_heap l.blobs) _ (length l.blobs.bytes) refl (omega (arith, end)) (few_blobs plan s))
+    (index_says (is_wide_heap l.blobs) _ (length l.blobs.bytes) refl (omega (arith, end)) (few_blobs source s))
 
 -- ---- the token of its locals
 
@@ -111,9 +111,9 @@ unfolding signatures.local_blob
 some_blob [] some = absurd cc
 some_blob (p ∷ ps) some = refl
 
-sig_count_is : (plan : AsmPlan) → Sound plan → row_count (md_for plan) 17 ≡ length (table_rows plan.methods.items tables.StandAloneSig)
+sig_count_is : (source : Linked) → Sound source → row_count (md_for source) 17 ≡ length (table_rows source.plan.methods.items (length source.externs) tables.StandAloneSig)
 unfolding counts_of
-sig_count_is plan s = ap (λ (counts : List ℕ). slice_index counts 17) (counts_are (layout_of plan) plan.methods.items s)
+sig_count_is source s = ap (λ (counts : List ℕ). slice_index counts 17) (counts_are (layout_of source) source.plan.methods.items s)
 
 row_named_by : (md : List ℕ) (row : ℕ) → 1 ≤ row → row ≤ row_count md 17 → row < 2 ^ 24 → row_in md 17 (token_of 17 row) ≡ Some row
 unfolding row_in
@@ -144,16 +144,16 @@ few_rows ms i within =
     let sum = sum_few (take i ms) in
     omega (arith, size, sum)
 
-blob_locals : (plan : AsmPlan) (i : ℕ) (m : MethodPlan) → IsTaken plan → i < length plan.methods.items → get_or plan.methods.items i m ≡ m → has_locals m ≡ true
-    → locals_at (md_for plan) (locals_row plan.methods.items i) ≡ Some (Known m.locals.items)
+blob_locals : (source : Linked) (i : ℕ) (m : MethodPlan) → IsTaken source → i < length source.plan.methods.items → get_or source.plan.methods.items i m ≡ m → has_locals m ≡ true
+    → locals_at (md_for source) (locals_row source.plan.methods.items i) ≡ Some (Known m.locals.items)
 unfolding locals_at
-blob_locals plan i m t within is has =
-    let few = few_variables_at plan i m t within is in
+blob_locals source i m t within is has =
+    let few = few_variables_at source i m t within is in
     let some = few_locals m few in
-    let stands = subst (λ (b : List ℕ). Stands b (layout_of plan).blobs.bytes (slice_index (layout_of plan).blobs.offsets (locals_index i))) (some_blob m.locals.items has) (locals_stand plan.methods.items i m within is) in
-    let read = ap (blob_at (md_for plan)) (locals_cell plan i m t.sound within is has) ∙ blob_read plan (signatures.local_signature m.locals.items) _ t.sound (locals_short m.locals.items some) stands in
+    let stands = subst (λ (b : List ℕ). Stands b (layout_of source).blobs.bytes (slice_index (layout_of source).blobs.offsets (locals_index i))) (some_blob m.locals.items has) (locals_stand source.plan.methods.items source.externs i m within is) in
+    let read = ap (blob_at (md_for source)) (locals_cell source i m t.sound within is has) ∙ blob_read source (signatures.local_signature m.locals.items) _ t.sound (locals_short m.locals.items some) stands in
     ap (option_and_then (λ blob. faultless (local_signature blob))) read
-    ∙ ap faultless (locals_back m.locals.items some (readable_at plan i m t within is).locals)
+    ∙ ap faultless (locals_back m.locals.items some (readable_at source i m t within is).locals)
 
 token_some : (row : ℕ) (m : MethodPlan) → has_locals m ≡ true → locals_token row m ≡ token_of 17 row
 token_some row m has = rw has refl
@@ -167,22 +167,22 @@ not_zero md row =
     let some : (17 * 2 ^ 24 + row == 0) ≡ false = grind arith in
     rw some refl
 
-locals_by : (plan : AsmPlan) (i : ℕ) (m : MethodPlan) (has : Bool) → has_locals m ≡ has → IsTaken plan → i < length plan.methods.items → get_or plan.methods.items i m ≡ m → length plan.methods.items < 2 ^ 24
-    → locals_of (md_for plan) (locals_token (locals_row plan.methods.items i) m) ≡ Some (Known m.locals.items)
+locals_by : (source : Linked) (i : ℕ) (m : MethodPlan) (has : Bool) → has_locals m ≡ has → IsTaken source → i < length source.plan.methods.items → get_or source.plan.methods.items i m ≡ m → length source.plan.methods.items < 2 ^ 24
+    → locals_of (md_for source) (locals_token (locals_row source.plan.methods.items i) m) ≡ Some (Known m.locals.items)
 unfolding locals_of
-locals_by plan i m true has t within is few =
-    let row : ℕ = locals_row plan.methods.items i in
-    let there = row_there 0 plan.methods.items i m within is has in
-    let count = sig_count_is plan t.sound in
-    let small = few_rows plan.methods.items i within in
-    ap (locals_of (md_for plan)) (token_some row m has)
-    ∙ not_zero (md_for plan) row
-    ∙ ap (option_and_then (locals_at (md_for plan))) (row_named_by (md_for plan) row (omega arith) (omega (arith, there, count)) (omega (arith, small, few, within)))
-    ∙ blob_locals plan i m t within is has
-locals_by plan i m false none t within is few =
-    ap (locals_of (md_for plan)) (token_none (locals_row plan.methods.items i) m none) ∙ ap (λ (ps : List Place). Some (Known ps)) (sym (no_items m.locals.items none))
+locals_by source i m true has t within is few =
+    let row : ℕ = locals_row source.plan.methods.items i in
+    let there = row_there 0 source.plan.methods.items i m within is has in
+    let count = sig_count_is source t.sound in
+    let small = few_rows source.plan.methods.items i within in
+    ap (locals_of (md_for source)) (token_some row m has)
+    ∙ not_zero (md_for source) row
+    ∙ ap (option_and_then (locals_at (md_for source))) (row_named_by (md_for source) row (omega arith) (omega (arith, there, count)) (omega (arith, small, few, within)))
+    ∙ blob_locals source i m t within is has
+locals_by source i m false none t within is few =
+    ap (locals_of (md_for source)) (token_none (locals_row source.plan.methods.items i) m none) ∙ ap (λ (ps : List Place). Some (Known ps)) (sym (no_items m.locals.items none))
 
 -- The token of a method's body names its locals.
-pub locals_are : (plan : AsmPlan) (i : ℕ) (m : MethodPlan) → IsTaken plan → i < length plan.methods.items → get_or plan.methods.items i m ≡ m → length plan.methods.items < 2 ^ 24
-    → locals_of (md_for plan) (locals_token (locals_row plan.methods.items i) m) ≡ Some (Known m.locals.items)
-locals_are plan i m t within is few = locals_by plan i m (has_locals m) refl t within is few
+pub locals_are : (source : Linked) (i : ℕ) (m : MethodPlan) → IsTaken source → i < length source.plan.methods.items → get_or source.plan.methods.items i m ≡ m → length source.plan.methods.items < 2 ^ 24
+    → locals_of (md_for source) (locals_token (locals_row source.plan.methods.items i) m) ≡ Some (Known m.locals.items)
+locals_are source i m t within is few = locals_by source i m (has_locals m) refl t within is few

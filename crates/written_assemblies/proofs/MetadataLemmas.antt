@@ -62,18 +62,19 @@ stands_rows l ms =
 
 -- ---- what its numbers say
 
-counts_width : (m k : Bool) (methods locals : ℕ) → numbers_width (map Four (counts_by m k methods locals)) ≡ 4 * present_below (valid_by m k) 64
+counts_width : (m k : Bool) (methods locals externs : ℕ) → numbers_width (map Four (counts_by m k methods locals externs)) ≡ 4 * present_below (valid_by m k) 64
 unfolding numbers_width present_below
-counts_width true true methods locals = refl
-counts_width true false methods locals = refl
-counts_width false true methods locals = refl
-counts_width false false methods locals = refl
+counts_width true true methods locals externs = refl
+counts_width true false methods locals externs = refl
+counts_width false true methods locals externs = refl
+counts_width false false methods locals externs = refl
 
 length_counts : (l : Layout) → length (flat_map (count_bytes l) all_tables) ≡ 4 * present_below (valid_by (l.methods == 0) (l.locals == 0)) 64
-length_counts l = ap length (count_bytes_are l) ∙ length_numbers _ ∙ counts_width (l.methods == 0) (l.locals == 0) l.methods l.locals
+length_counts l = ap length (count_bytes_are l) ∙ length_numbers _ ∙ counts_width (l.methods == 0) (l.locals == 0) l.methods l.locals l.externs
 
 pub record IsSound (l : Layout) (ms : List MethodPlan) : Type 0 where
   pub counts : Counts l ms
+  pub externs : l.externs + 12 < 2 ^ 24
   pub few : length (md_of l ms) < 2 ^ 31
 
 at_is : (l : Layout) (ms : List MethodPlan) → IsSound l ms → tables_at (md_of l ms) ≡ 108
@@ -109,9 +110,9 @@ unfolding read_width columns_of
 methods_few l ms s =
     let end = stands_reach _ _ _ (methods_stand l ms s.counts) in
     let all = stands_reach _ _ _ (stands_rows l ms) in
-    let size = rows_have_width l tables.MethodDef (table_rows ms tables.MethodDef) (are_rows ms tables.MethodDef) in
-    let least : 2 ≤ width_of l tables.MethodDef = wide_row (counts_of l.methods l.locals) (written.heap_sizes l) (columns_of 6) (omega arith) in
-    let rows = twice (length (table_rows ms tables.MethodDef)) (width_of l tables.MethodDef) least in
+    let size = rows_have_width l tables.MethodDef (table_rows ms l.externs tables.MethodDef) (are_rows ms l.externs tables.MethodDef) in
+    let least : 2 ≤ width_of l tables.MethodDef = wide_row (counts_of l.methods l.locals l.externs) (written.heap_sizes l) (columns_of 6) (omega arith) in
+    let rows = twice (length (table_rows ms l.externs tables.MethodDef)) (width_of l tables.MethodDef) least in
     let few = s.few in
     let counted = s.counts.methods in
     omega (arith, end, all, size, rows, few, counted)
@@ -121,16 +122,17 @@ unfolding read_width columns_of
 locals_few l ms s =
     let end = stands_reach _ _ _ (locals_stand l ms s.counts) in
     let all = stands_reach _ _ _ (stands_rows l ms) in
-    let size = rows_have_width l tables.StandAloneSig (table_rows ms tables.StandAloneSig) (are_rows ms tables.StandAloneSig) in
-    let least : 2 ≤ width_of l tables.StandAloneSig = wide_row (counts_of l.methods l.locals) (written.heap_sizes l) (columns_of 17) (omega arith) in
-    let rows = twice (length (table_rows ms tables.StandAloneSig)) (width_of l tables.StandAloneSig) least in
+    let size = rows_have_width l tables.StandAloneSig (table_rows ms l.externs tables.StandAloneSig) (are_rows ms l.externs tables.StandAloneSig) in
+    let least : 2 ≤ width_of l tables.StandAloneSig = wide_row (counts_of l.methods l.locals l.externs) (written.heap_sizes l) (columns_of 17) (omega arith) in
+    let rows = twice (length (table_rows ms l.externs tables.StandAloneSig)) (width_of l tables.StandAloneSig) least in
     let few = s.few in
     let counted = s.counts.locals in
     omega (arith, end, all, size, rows, few, counted)
 
-pub counts_are : (l : Layout) (ms : List MethodPlan) → IsSound l ms → row_counts (md_of l ms) ≡ counts_of l.methods l.locals
+pub counts_are : (l : Layout) (ms : List MethodPlan) → IsSound l ms → row_counts (md_of l ms) ≡ counts_of l.methods l.locals l.externs
 counts_are l ms s =
-    row_counts_are l (md_of l ms) (bits_are l ms s) (counts_at_is l ms s) (methods_few l ms s) (locals_few l ms s)
+    let externs = s.externs in
+    row_counts_are l (md_of l ms) (bits_are l ms s) (counts_at_is l ms s) (methods_few l ms s) (locals_few l ms s) (omega (arith, externs))
     (subst (λ (bytes : List ℕ). Stands bytes (md_of l ms) 132) (count_bytes_are l) (stands_counts l ms))
 
 pub rows_at_is : (l : Layout) (ms : List MethodPlan) → IsSound l ms → rows_at (md_of l ms) ≡ 132 + length (flat_map (count_bytes l) all_tables)
@@ -141,7 +143,7 @@ rows_at_is l ms s =
 
 -- Where the first row of a table stands.
 pub base_is : (l : Layout) (ms : List MethodPlan) (number : ℕ) → IsSound l ms
-    → base (md_of l ms) number ≡ 132 + length (flat_map (count_bytes l) all_tables) + bytes_below (counts_of l.methods l.locals) (written.heap_sizes l) number
+    → base (md_of l ms) number ≡ 132 + length (flat_map (count_bytes l) all_tables) + bytes_below (counts_of l.methods l.locals l.externs) (written.heap_sizes l) number
 unfolding base
 base_is l ms number s = rw (rows_at_is l ms s, counts_are l ms s, sizes_are l ms s) refl
 

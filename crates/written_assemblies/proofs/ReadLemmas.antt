@@ -21,7 +21,7 @@ use Rattle.asm_writer.specs.declared.field.Field.TheVariants as fields
 use Rattle.asm_writer.specs.declared.name.Name.{Name}
 use Rattle.asm_writer.specs.declared.name.Name.TheVariants as names
 use Rattle.asm_writer.specs.declared.number.Number.TheVariants.{Two, Four}
-use Rattle.asm_writer.specs.declared.plan.AsmPlan.{AsmPlan}
+use Rattle.asm_writer.specs.Linked.{Linked}
 use Rattle.asm_writer.specs.declared.plan.MethodPlan.{MethodPlan}
 use Rattle.asm_writer.specs.declared.table.CodedIndex.TheVariants.{TypeDefOrRef}
 use Rattle.asm_writer.specs.declared.table.Table.TheVariants as tables
@@ -53,96 +53,96 @@ one_says false = (refl, omega arith)
 abbrev type_row : Name → Name → Field → List Field
 type_row name space extends = fields.Plain (Four 0) ∷ fields.Strings name ∷ fields.Strings space ∷ extends ∷ fields.Row tables.Field 1 ∷ fields.Row tables.MethodDef 1 ∷ []
 
-global_name : (plan : AsmPlan) → Sound plan → string_at (md_for plan) (cell (md_for plan) 2 1 1) ≡ Some (codes "<Module>")
+global_name : (source : Linked) → Sound source → string_at (md_for source) (cell (md_for source) 2 1 1) ≡ Some (codes "<Module>")
 unfolding columns_of name_text
-global_name plan s =
-    let l = layout_of plan in
-    let here = name_stands plan names.Global 7 (omega arith) refl in
+global_name source s =
+    let l = layout_of source in
+    let here = name_stands source names.Global 7 (omega arith) refl in
     let end = stands_reach _ _ _ here in
-    let is = cell_is l plan.methods.items 2 1 (fields.Plain (Four 0) ∷ []) (fields.Strings names.Global)
+    let is = cell_is l source.plan.methods.items 2 1 (fields.Plain (Four 0) ∷ []) (fields.Strings names.Global)
     (fields.Strings names.Empty ∷ fields.Coded TypeDefOrRef tables.TypeDef 0 ∷ fields.Row tables.Field 1 ∷ fields.Row tables.MethodDef 1 ∷ []) columns.Strings _ s refl refl refl
-    (type_row_stands plan 0 (type_row names.Global names.Empty (fields.Coded TypeDefOrRef tables.TypeDef 0)) s (omega arith) refl)
-    (index_says (is_wide_heap l.strings) _ (length l.strings.bytes) refl (omega (arith, end)) (few_strings plan s)) in
-    ap (string_at (md_for plan)) is ∙ text_read plan (codes "<Module>") _ s (refl, (refl, (refl, (refl, (refl, (refl, (refl, (refl, tt)))))))) here
+    (type_row_stands source 0 (type_row names.Global names.Empty (fields.Coded TypeDefOrRef tables.TypeDef 0)) s (omega arith) refl)
+    (index_says (is_wide_heap l.strings) _ (length l.strings.bytes) refl (omega (arith, end)) (few_strings source s)) in
+    ap (string_at (md_for source)) is ∙ text_read source (codes "<Module>") _ s (refl, (refl, (refl, (refl, (refl, (refl, (refl, (refl, tt)))))))) here
 
-no_namespace : (plan : AsmPlan) → Sound plan → string_at (md_for plan) (cell (md_for plan) 2 1 2) ≡ Some []
+no_namespace : (source : Linked) → Sound source → string_at (md_for source) (cell (md_for source) 2 1 2) ≡ Some []
 unfolding columns_of name_text
-no_namespace plan s =
-    let l = layout_of plan in
-    let here = name_stands plan names.Empty 0 (omega arith) refl in
+no_namespace source s =
+    let l = layout_of source in
+    let here = name_stands source names.Empty 0 (omega arith) refl in
     let end = stands_reach _ _ _ here in
-    let is = cell_is l plan.methods.items 2 1 (fields.Plain (Four 0) ∷ fields.Strings names.Global ∷ []) (fields.Strings names.Empty)
+    let is = cell_is l source.plan.methods.items 2 1 (fields.Plain (Four 0) ∷ fields.Strings names.Global ∷ []) (fields.Strings names.Empty)
     (fields.Coded TypeDefOrRef tables.TypeDef 0 ∷ fields.Row tables.Field 1 ∷ fields.Row tables.MethodDef 1 ∷ []) columns.Strings _ s refl refl refl
-    (type_row_stands plan 0 (type_row names.Global names.Empty (fields.Coded TypeDefOrRef tables.TypeDef 0)) s (omega arith) refl)
-    (index_says (is_wide_heap l.strings) _ (length l.strings.bytes) refl (omega (arith, end)) (few_strings plan s)) in
-    ap (string_at (md_for plan)) is ∙ text_read plan [] _ s tt here
+    (type_row_stands source 0 (type_row names.Global names.Empty (fields.Coded TypeDefOrRef tables.TypeDef 0)) s (omega arith) refl)
+    (index_says (is_wide_heap l.strings) _ (length l.strings.bytes) refl (omega (arith, end)) (few_strings source s)) in
+    ap (string_at (md_for source)) is ∙ text_read source [] _ s tt here
 
-class_name : (plan : AsmPlan) → Sound plan → HasNoZero plan.class.items → string_at (md_for plan) (cell (md_for plan) 2 2 1) ≡ Some plan.class.items
+class_name : (source : Linked) → Sound source → HasNoZero source.plan.class.items → string_at (md_for source) (cell (md_for source) 2 2 1) ≡ Some source.plan.class.items
 unfolding columns_of name_text
-class_name plan s no_zero =
-    let l = layout_of plan in
-    let here = name_stands plan names.Class 16 (omega arith) refl in
+class_name source s no_zero =
+    let l = layout_of source in
+    let here = name_stands source names.Class 16 (omega arith) refl in
     let end = stands_reach _ _ _ here in
-    let is = cell_is l plan.methods.items 2 2 (fields.Plain (Four 0) ∷ []) (fields.Strings names.Class)
+    let is = cell_is l source.plan.methods.items 2 2 (fields.Plain (Four 0) ∷ []) (fields.Strings names.Class)
     (fields.Strings names.Namespace ∷ fields.Coded TypeDefOrRef tables.TypeRef (row_named names.Object types) ∷ fields.Row tables.Field 1 ∷ fields.Row tables.MethodDef 1 ∷ []) columns.Strings _ s refl refl refl
-    (type_row_stands plan 1 (type_row names.Class names.Namespace (fields.Coded TypeDefOrRef tables.TypeRef (row_named names.Object types))) s (omega arith) refl)
-    (index_says (is_wide_heap l.strings) _ (length l.strings.bytes) refl (omega (arith, end)) (few_strings plan s)) in
-    ap (string_at (md_for plan)) is ∙ text_read plan plan.class.items _ s no_zero here
+    (type_row_stands source 1 (type_row names.Class names.Namespace (fields.Coded TypeDefOrRef tables.TypeRef (row_named names.Object types))) s (omega arith) refl)
+    (index_says (is_wide_heap l.strings) _ (length l.strings.bytes) refl (omega (arith, end)) (few_strings source s)) in
+    ap (string_at (md_for source)) is ∙ text_read source source.plan.class.items _ s no_zero here
 
-namespace_name : (plan : AsmPlan) → Sound plan → HasNoZero plan.namespace.items → string_at (md_for plan) (cell (md_for plan) 2 2 2) ≡ Some plan.namespace.items
+namespace_name : (source : Linked) → Sound source → HasNoZero source.plan.namespace.items → string_at (md_for source) (cell (md_for source) 2 2 2) ≡ Some source.plan.namespace.items
 unfolding columns_of name_text
-namespace_name plan s no_zero =
-    let l = layout_of plan in
-    let here = name_stands plan names.Namespace 17 (omega arith) refl in
+namespace_name source s no_zero =
+    let l = layout_of source in
+    let here = name_stands source names.Namespace 17 (omega arith) refl in
     let end = stands_reach _ _ _ here in
-    let is = cell_is l plan.methods.items 2 2 (fields.Plain (Four 0) ∷ fields.Strings names.Class ∷ []) (fields.Strings names.Namespace)
+    let is = cell_is l source.plan.methods.items 2 2 (fields.Plain (Four 0) ∷ fields.Strings names.Class ∷ []) (fields.Strings names.Namespace)
     (fields.Coded TypeDefOrRef tables.TypeRef (row_named names.Object types) ∷ fields.Row tables.Field 1 ∷ fields.Row tables.MethodDef 1 ∷ []) columns.Strings _ s refl refl refl
-    (type_row_stands plan 1 (type_row names.Class names.Namespace (fields.Coded TypeDefOrRef tables.TypeRef (row_named names.Object types))) s (omega arith) refl)
-    (index_says (is_wide_heap l.strings) _ (length l.strings.bytes) refl (omega (arith, end)) (few_strings plan s)) in
-    ap (string_at (md_for plan)) is ∙ text_read plan plan.namespace.items _ s no_zero here
+    (type_row_stands source 1 (type_row names.Class names.Namespace (fields.Coded TypeDefOrRef tables.TypeRef (row_named names.Object types))) s (omega arith) refl)
+    (index_says (is_wide_heap l.strings) _ (length l.strings.bytes) refl (omega (arith, end)) (few_strings source s)) in
+    ap (string_at (md_for source)) is ∙ text_read source source.plan.namespace.items _ s no_zero here
 
-first_list : (plan : AsmPlan) → Sound plan → cell (md_for plan) 2 1 5 ≡ 1
+first_list : (source : Linked) → Sound source → cell (md_for source) 2 1 5 ≡ 1
 unfolding columns_of
-first_list plan s =
-    let l = layout_of plan in
-    cell_is l plan.methods.items 2 1 (fields.Plain (Four 0) ∷ fields.Strings names.Global ∷ fields.Strings names.Empty ∷ fields.Coded TypeDefOrRef tables.TypeDef 0 ∷ fields.Row tables.Field 1 ∷ []) (fields.Row tables.MethodDef 1)
+first_list source s =
+    let l = layout_of source in
+    cell_is l source.plan.methods.items 2 1 (fields.Plain (Four 0) ∷ fields.Strings names.Global ∷ fields.Strings names.Empty ∷ fields.Coded TypeDefOrRef tables.TypeDef 0 ∷ fields.Row tables.Field 1 ∷ []) (fields.Row tables.MethodDef 1)
     [] (columns.Row 6) 1 s refl refl refl
-    (type_row_stands plan 0 (type_row names.Global names.Empty (fields.Coded TypeDefOrRef tables.TypeDef 0)) s (omega arith) refl)
+    (type_row_stands source 0 (type_row names.Global names.Empty (fields.Coded TypeDefOrRef tables.TypeDef 0)) s (omega arith) refl)
     (one_says (is_wide_index l (tables.MethodDef ∷ []) 0))
 
-second_list : (plan : AsmPlan) → Sound plan → cell (md_for plan) 2 2 5 ≡ 1
+second_list : (source : Linked) → Sound source → cell (md_for source) 2 2 5 ≡ 1
 unfolding columns_of
-second_list plan s =
-    let l = layout_of plan in
-    cell_is l plan.methods.items 2 2 (fields.Plain (Four 0) ∷ fields.Strings names.Class ∷ fields.Strings names.Namespace ∷ fields.Coded TypeDefOrRef tables.TypeRef (row_named names.Object types) ∷ fields.Row tables.Field 1 ∷ []) (fields.Row tables.MethodDef 1)
+second_list source s =
+    let l = layout_of source in
+    cell_is l source.plan.methods.items 2 2 (fields.Plain (Four 0) ∷ fields.Strings names.Class ∷ fields.Strings names.Namespace ∷ fields.Coded TypeDefOrRef tables.TypeRef (row_named names.Object types) ∷ fields.Row tables.Field 1 ∷ []) (fields.Row tables.MethodDef 1)
     [] (columns.Row 6) 1 s refl refl refl
-    (type_row_stands plan 1 (type_row names.Class names.Namespace (fields.Coded TypeDefOrRef tables.TypeRef (row_named names.Object types))) s (omega arith) refl)
+    (type_row_stands source 1 (type_row names.Class names.Namespace (fields.Coded TypeDefOrRef tables.TypeRef (row_named names.Object types))) s (omega arith) refl)
     (one_says (is_wide_index l (tables.MethodDef ∷ []) 0))
 
-type_count_is : (plan : AsmPlan) → Sound plan → type_count (md_for plan) ≡ 2
+type_count_is : (source : Linked) → Sound source → type_count (md_for source) ≡ 2
 unfolding counts_of
-type_count_is plan s = ap (λ (counts : List ℕ). slice_index counts 2) (counts_are (layout_of plan) plan.methods.items s)
+type_count_is source s = ap (λ (counts : List ℕ). slice_index counts 2) (counts_are (layout_of source) source.plan.methods.items s)
 
-method_count_is : (plan : AsmPlan) → Sound plan → method_count (md_for plan) ≡ length plan.methods.items
+method_count_is : (source : Linked) → Sound source → method_count (md_for source) ≡ length source.plan.methods.items
 unfolding counts_of
-method_count_is plan s = ap (λ (counts : List ℕ). slice_index counts 6) (counts_are (layout_of plan) plan.methods.items s) ∙ method_rows plan.methods.items
+method_count_is source s = ap (λ (counts : List ℕ). slice_index counts 6) (counts_are (layout_of source) source.plan.methods.items s) ∙ method_rows source.plan.methods.items (length source.externs)
 
 -- The tests of both types.
 list_passes : (md : List ℕ) (base row least : ℕ) → least_list md row ≡ 1 → method_list md row ≡ 1 → list_test md base row ≡ None
 list_passes md base row least p q = rw (p, q, le-leb 1 (method_count md + 1) (omega arith)) refl
 
-types_pass : (plan : AsmPlan) (base : ℕ) → Sound plan → IsReadable plan → first_of (types_tests (md_for plan) base) ≡ None
+types_pass : (source : Linked) (base : ℕ) → Sound source → IsReadable source.plan → first_of (types_tests (md_for source) base) ≡ None
 unfolding types_tests type_tests
-types_pass plan base s readable =
-    let md = md_for plan in
-    rw (type_count_is plan s)
+types_pass source base s readable =
+    let md = md_for source in
+    rw (type_count_is source s)
     ((none_failed (flat_map (type_tests md base) (range_with_len 1 2))).1 (
-      rw (global_name plan s) refl,
+      rw (global_name source s) refl,
       (
-        rw (no_namespace plan s) refl,
+        rw (no_namespace source s) refl,
         (
-          list_passes md base 1 1 refl (first_list plan s),
-          (rw (class_name plan s readable.class) refl, (rw (namespace_name plan s readable.namespace) refl, (list_passes md base 2 1 (first_list plan s) (second_list plan s), tt))),
+          list_passes md base 1 1 refl (first_list source s),
+          (rw (class_name source s readable.class) refl, (rw (namespace_name source s readable.namespace) refl, (list_passes md base 2 1 (first_list source s) (second_list source s), tt))),
         ),
       ),
     ))
@@ -150,7 +150,7 @@ types_pass plan base s readable =
 -- ---- the methods
 
 -- What holds of each of a list, and one of them.
-at_index : {X : Type 0} (P : X → Type 0) (xs : List X) (i : ℕ) (x : X) → AllByRecursion P xs → i < length xs → get_or xs i x ≡ x → P x
+pub at_index : {X : Type 0} (P : X → Type 0) (xs : List X) (i : ℕ) (x : X) → AllByRecursion P xs → i < length xs → get_or xs i x ≡ x → P x
 at_index P [] i x all within is = absurd (omega (arith, within))
 at_index P (y ∷ ys) zero x all within is = subst P is all.0
 at_index P (y ∷ ys) (suc i) x all within is = at_index P ys i x all.1 (omega (arith, within)) is
@@ -182,43 +182,43 @@ unfolding is_within
 few_variables m within = leb-true _ _ (and_right _ _ within)
 
 -- What is known of a plan that was taken.
-pub record IsTaken (plan : AsmPlan) : Type 0 where
-  pub sound : Sound plan
-  pub readable : IsReadable plan
-  pub within : list_all is_within plan.methods.items ≡ true
-  pub few : length (bodies plan.methods.items).bytes < 2 ^ 31
+pub record IsTaken (source : Linked) : Type 0 where
+  pub sound : Sound source
+  pub readable : IsReadable source.plan
+  pub within : list_all is_within source.plan.methods.items ≡ true
+  pub few : length (bodies source.plan.methods.items).bytes < 2 ^ 31
 
-pub few_variables_at : (plan : AsmPlan) (i : ℕ) (m : MethodPlan) → IsTaken plan → i < length plan.methods.items → get_or plan.methods.items i m ≡ m → length m.args.items + length m.locals.items + m.max_stack ≤ MAX_VARIABLES
-few_variables_at plan i m t within is = few_variables m (at_index (λ n. is_within n ≡ true) plan.methods.items i m (each_within plan.methods.items t.within) within is)
+pub few_variables_at : (source : Linked) (i : ℕ) (m : MethodPlan) → IsTaken source → i < length source.plan.methods.items → get_or source.plan.methods.items i m ≡ m → length m.args.items + length m.locals.items + m.max_stack ≤ MAX_VARIABLES
+few_variables_at source i m t within is = few_variables m (at_index (λ n. is_within n ≡ true) source.plan.methods.items i m (each_within source.plan.methods.items t.within) within is)
 
 few_code : (m : MethodPlan) → is_within m ≡ true → length m.code.items ≤ MAX_CODE_BYTES
 unfolding is_within
 few_code m within = leb-true _ _ (and_left _ _ within)
 
-pub few_code_at : (plan : AsmPlan) (i : ℕ) (m : MethodPlan) → IsTaken plan → i < length plan.methods.items → get_or plan.methods.items i m ≡ m → length m.code.items ≤ MAX_CODE_BYTES
-few_code_at plan i m t within is = few_code m (at_index (λ n. is_within n ≡ true) plan.methods.items i m (each_within plan.methods.items t.within) within is)
+pub few_code_at : (source : Linked) (i : ℕ) (m : MethodPlan) → IsTaken source → i < length source.plan.methods.items → get_or source.plan.methods.items i m ≡ m → length m.code.items ≤ MAX_CODE_BYTES
+few_code_at source i m t within is = few_code m (at_index (λ n. is_within n ≡ true) source.plan.methods.items i m (each_within source.plan.methods.items t.within) within is)
 
-few_args : (plan : AsmPlan) (i : ℕ) (m : MethodPlan) → IsTaken plan → i < length plan.methods.items → get_or plan.methods.items i m ≡ m → length m.args.items ≤ MAX_VARIABLES
-few_args plan i m t within is = let few = few_variables_at plan i m t within is in omega (arith, few)
+few_args : (source : Linked) (i : ℕ) (m : MethodPlan) → IsTaken source → i < length source.plan.methods.items → get_or source.plan.methods.items i m ≡ m → length m.args.items ≤ MAX_VARIABLES
+few_args source i m t within is = let few = few_variables_at source i m t within is in omega (arith, few)
 
-pub readable_at : (plan : AsmPlan) (i : ℕ) (m : MethodPlan) → IsTaken plan → i < length plan.methods.items → get_or plan.methods.items i m ≡ m → IsReadableMethod m
-readable_at plan i m t within is = at_index IsReadableMethod plan.methods.items i m t.readable.methods within is
+pub readable_at : (source : Linked) (i : ℕ) (m : MethodPlan) → IsTaken source → i < length source.plan.methods.items → get_or source.plan.methods.items i m ≡ m → IsReadableMethod m
+readable_at source i m t within is = at_index IsReadableMethod source.plan.methods.items i m t.readable.methods within is
 
 -- The signature of the method of a list index.
-blob_is : (plan : AsmPlan) (i : ℕ) (m : MethodPlan) → IsTaken plan → i < length plan.methods.items → get_or plan.methods.items i m ≡ m
-    → method_signature (signature_blob (md_for plan) (i + 1)) ≡ Ok (record { has_this = not m.is_static; generic = false; types = Known (record { result = m.result; args = m.args.items }) })
-blob_is plan i m t within is =
-    ap (λ (found : Option (List ℕ)). method_signature (unwrap_or found [])) (signature_read plan i m t.sound within is (few_args plan i m t within is))
-    ∙ signature_back m (few_args plan i m t within is) (readable_at plan i m t within is).args
+blob_is : (source : Linked) (i : ℕ) (m : MethodPlan) → IsTaken source → i < length source.plan.methods.items → get_or source.plan.methods.items i m ≡ m
+    → method_signature (signature_blob (md_for source) (i + 1)) ≡ Ok (record { has_this = not m.is_static; generic = false; types = Known (record { result = m.result; args = m.args.items }) })
+blob_is source i m t within is =
+    ap (λ (found : Option (List ℕ)). method_signature (unwrap_or found [])) (signature_read source i m t.sound within is (few_args source i m t within is))
+    ∙ signature_back m (few_args source i m t within is) (readable_at source i m t within is).args
 
-method_passes : (plan : AsmPlan) (base i : ℕ) (m : MethodPlan) → IsTaken plan → i < length plan.methods.items → get_or plan.methods.items i m ≡ m → first_of (method_tests (md_for plan) base (i + 1)) ≡ None
+method_passes : (source : Linked) (base i : ℕ) (m : MethodPlan) → IsTaken source → i < length source.plan.methods.items → get_or source.plan.methods.items i m ≡ m → first_of (method_tests (md_for source) base (i + 1)) ≡ None
 unfolding method_tests signature_tests
-method_passes plan base i m t within is =
-    (none_failed (method_tests (md_for plan) base (i + 1))).1 (
-      rw (name_read plan i m t.sound within is (readable_at plan i m t within is).name) refl,
+method_passes source base i m t within is =
+    (none_failed (method_tests (md_for source) base (i + 1))).1 (
+      rw (name_read source i m t.sound within is (readable_at source i m t within is).name) refl,
       (
-        rw (signature_read plan i m t.sound within is (few_args plan i m t within is)) refl,
-        (ap (signature_fault (base + signature_at (md_for plan) (i + 1))) (blob_is plan i m t within is), tt),
+        rw (signature_read source i m t.sound within is (few_args source i m t within is)) refl,
+        (ap (signature_fault (base + signature_at (md_for source) (i + 1))) (blob_is source i m t within is), tt),
       ),
     )
 
@@ -230,53 +230,53 @@ each_passes tests from (suc count) each =
     first_of-append_none _ _ first
     ∙ each_passes tests (from + 1) count (λ i within. let next : from + suc i ≡ from + 1 + i = omega arith in subst (λ (k : ℕ). first_of (tests k) ≡ None) next (each (suc i) (omega (arith, within))))
 
-methods_pass : (plan : AsmPlan) (base : ℕ) → IsTaken plan → first_of (methods_tests (md_for plan) base) ≡ None
+methods_pass : (source : Linked) (base : ℕ) → IsTaken source → first_of (methods_tests (md_for source) base) ≡ None
 unfolding methods_tests
-methods_pass plan base t =
-    rw (method_count_is plan t.sound)
-    (each_passes (method_tests (md_for plan) base) 1 (length plan.methods.items) (λ i within.
-    let here = found plan.methods.items i within in
+methods_pass source base t =
+    rw (method_count_is source t.sound)
+    (each_passes (method_tests (md_for source) base) 1 (length source.plan.methods.items) (λ i within.
+    let here = found source.plan.methods.items i within in
     let same : 1 + i ≡ i + 1 = omega arith in
-    rw same (method_passes plan base i here.item t within here.is)))
+    rw same (method_passes source base i here.item t within here.is)))
 
-pub rows_pass : (plan : AsmPlan) (base : ℕ) → IsTaken plan → first_of (types_tests (md_for plan) base ++ methods_tests (md_for plan) base) ≡ None
-rows_pass plan base t = first_of-append_none _ _ (types_pass plan base t.sound t.readable) ∙ methods_pass plan base t
+pub rows_pass : (source : Linked) (base : ℕ) → IsTaken source → first_of (types_tests (md_for source) base ++ methods_tests (md_for source) base) ≡ None
+rows_pass source base t = first_of-append_none _ _ (types_pass source base t.sound t.readable) ∙ methods_pass source base t
 
 -- ---- what is read of them
 
-owner_is : (plan : AsmPlan) (i : ℕ) → Sound plan → owner (md_for plan) (i + 1) ≡ 2
+owner_is : (source : Linked) (i : ℕ) → Sound source → owner (md_for source) (i + 1) ≡ 2
 unfolding owner owner_among
-owner_is plan i s = rw (type_count_is plan s) (rw (second_list plan s, le-leb 1 (i + 1) (omega arith)) refl)
+owner_is source i s = rw (type_count_is source s) (rw (second_list source s, le-leb 1 (i + 1) (omega arith)) refl)
 
-rva_cell : (plan : AsmPlan) (i : ℕ) (m : MethodPlan) → IsTaken plan → i < length plan.methods.items → get_or plan.methods.items i m ≡ m
-    → cell (md_for plan) 6 (i + 1) 0 ≡ body_rva plan i
+rva_cell : (source : Linked) (i : ℕ) (m : MethodPlan) → IsTaken source → i < length source.plan.methods.items → get_or source.plan.methods.items i m ≡ m
+    → cell (md_for source) 6 (i + 1) 0 ≡ body_rva source.plan i
 unfolding columns_of body_rva numbers_width
-rva_cell plan i m t within is =
-    let end = stands_reach _ _ _ (body_stands plan.methods.items i m within is) in
+rva_cell source i m t within is =
+    let end = stands_reach _ _ _ (body_stands source.plan.methods.items i m within is) in
     let few = t.few in
-    cell_is (layout_of plan) plan.methods.items 6 (i + 1) [] (fields.MethodBody i)
-    (fields.Plain (Two 0) ∷ fields.Plain (Two (method_flags m.is_static)) ∷ fields.MethodName i ∷ fields.MethodSignature i ∷ fields.Row tables.Param 1 ∷ []) columns.Four _ t.sound refl refl refl (method_row_stands plan i m t.sound within is)
+    cell_is (layout_of source) source.plan.methods.items 6 (i + 1) [] (fields.MethodBody i)
+    (fields.Plain (Two 0) ∷ fields.Plain (Two (method_flags m.is_static)) ∷ fields.MethodName i ∷ fields.MethodSignature i ∷ fields.Row tables.Param 1 ∷ []) columns.Four _ t.sound refl refl refl (method_row_stands source i m t.sound within is)
     (refl, omega (arith, end, few))
 
-printed_is : (plan : AsmPlan) (i : ℕ) (m : MethodPlan) → IsTaken plan → i < length plan.methods.items → get_or plan.methods.items i m ≡ m
-    → printed_name (md_for plan) (i + 1) ≡ written_name plan m
+printed_is : (source : Linked) (i : ℕ) (m : MethodPlan) → IsTaken source → i < length source.plan.methods.items → get_or source.plan.methods.items i m ≡ m
+    → printed_name (md_for source) (i + 1) ≡ written_name source.plan m
 unfolding printed_name short_name signature written_name
-printed_is plan i m t within is =
-    let name = name_read plan i m t.sound within is (readable_at plan i m t within is).name in
-    let class = class_name plan t.sound t.readable.class in
-    let space = namespace_name plan t.sound t.readable.namespace in
-    let sig = blob_is plan i m t within is in
-    rw (owner_is plan i t.sound, sig) (rw (name, class, space) refl)
+printed_is source i m t within is =
+    let name = name_read source i m t.sound within is (readable_at source i m t within is).name in
+    let class = class_name source t.sound t.readable.class in
+    let space = namespace_name source t.sound t.readable.namespace in
+    let sig = blob_is source i m t within is in
+    rw (owner_is source i t.sound, sig) (rw (name, class, space) refl)
 
-row_is : (plan : AsmPlan) (i : ℕ) (m : MethodPlan) → IsTaken plan → i < length plan.methods.items → get_or plan.methods.items i m ≡ m
-    → read_row (md_for plan) (i + 1) ≡ written_method plan i m
+row_is : (source : Linked) (i : ℕ) (m : MethodPlan) → IsTaken source → i < length source.plan.methods.items → get_or source.plan.methods.items i m ≡ m
+    → read_row (md_for source) (i + 1) ≡ written_method source.plan i m
 unfolding read_row written_method signature
-row_is plan i m t within is =
-    let name = printed_is plan i m t within is in
-    let flags = flags_cell plan i m t.sound within is in
-    let impl = impl_flags_cell plan i m t.sound within is in
-    let rva = rva_cell plan i m t within is in
-    let sig = blob_is plan i m t within is in
+row_is source i m t within is =
+    let name = printed_is source i m t within is in
+    let flags = flags_cell source i m t.sound within is in
+    let impl = impl_flags_cell source i m t.sound within is in
+    let rva = rva_cell source i m t within is in
+    let sig = blob_is source i m t within is in
     rw (name, flags, impl, rva, sig) refl
 
 rows_same : {X : Type 0} (g : ℕ → X) (f : ℕ → MethodPlan → X) (index : ℕ) (ms : List MethodPlan)
@@ -290,10 +290,10 @@ rows_same g f index (m ∷ ms) each =
     let rest = rows_same g f (index + 1) ms (λ i n within is. let next : index + suc i ≡ index + 1 + i = omega arith in subst (λ (k : ℕ). g (k + 1) ≡ f k n) next (each (suc i) n (omega (arith, within)) is)) in
     ap₂ (λ x xs. x ∷ xs) first rest
 
-pub methods_are : (plan : AsmPlan) → IsTaken plan → rows_of (md_for plan) ≡ written_methods plan
+pub methods_are : (source : Linked) → IsTaken source → rows_of (md_for source) ≡ written_methods source.plan
 unfolding rows_of written_methods
-methods_are plan t =
-    ap (λ (n : ℕ). map (read_row (md_for plan)) (range_with_len 1 n)) (method_count_is plan t.sound)
-    ∙ rows_same (read_row (md_for plan)) (written_method plan) 0 plan.methods.items (λ i m within is.
+methods_are source t =
+    ap (λ (n : ℕ). map (read_row (md_for source)) (range_with_len 1 n)) (method_count_is source t.sound)
+    ∙ rows_same (read_row (md_for source)) (written_method source.plan) 0 source.plan.methods.items (λ i m within is.
     let same : 0 + i ≡ i = omega arith in
-    rw same (row_is plan i m t within is))
+    rw same (row_is source i m t within is))

@@ -1,7 +1,7 @@
 -- Where the rows that were written stand.
 use Rattle.std.proofs.Common.{◌≡◌, ℕ, zero, suc, ◌+◌, ◌*◌, ◌<◌, List, [], ◌∷◌, ◌++◌, length, map, get_or, Bool, true, false, Some, refl, subst, ◌∙◌, arith}
 use Rattle.std.specs.Prelude.{if◌then◌else◌}
-use Rattle.std.specs.List.{AllByRecursion}
+use Rattle.std.specs.List.{AllByRecursion, flat_map, range_with_len}
 use Rattle.std.proofs.lemmas.List.{length-append}
 use Rattle.metadata_tables.specs.Schema.{columns_of}
 use Rattle.metadata_tables.specs.Layout.{row_width as read_width}
@@ -16,7 +16,7 @@ use Rattle.asm_writer.specs.declared.name.Name.TheVariants as names
 use Rattle.asm_writer.specs.Bodies.{has_locals}
 use Rattle.asm_writer.specs.Each.{each_from}
 use Rattle.asm_writer.specs.Layout.{fields_bytes, rows_bytes}
-use Rattle.asm_writer.specs.Rows.{types, calls, linked, instantiations, type_ref_row, member_ref_row, assembly_ref_row, method_spec_row, locals_fields, rows_of_method, table_rows}
+use Rattle.asm_writer.specs.Rows.{types, calls, assemblies, instantiations, type_ref_row, member_ref_row, assembly_ref_row, method_spec_row, locals_fields, rows_of_method, rows_of_extern, extern_rows, table_rows}
 use Rattle.asm_writer.specs.Sizes.{row_width}
 use Rattle.asm_writer.specs.Stream as written
 use Rattle.asm_writer.specs.Stream.{table_bytes}
@@ -51,21 +51,38 @@ unfolding columns_of
 locals_row_is i true = (refl, tt)
 locals_row_is i false = tt
 
-pub are_rows : (ms : List MethodPlan) (table : Table) → AllByRecursion (IsRowOf table) (table_rows ms table)
+all_numbers : {X : Type 0} (P : X → Type 0) (f : ℕ → List X) (from n : ℕ) → ((i : ℕ) → AllByRecursion P (f i)) → AllByRecursion P (flat_map f (range_with_len from n))
+all_numbers P f from zero each = tt
+all_numbers P f from (suc n) each = all_append P (f from) (flat_map f (range_with_len (from + 1) n)) (each from) (all_numbers P f (from + 1) n each)
+
+extern_rows_are : (table : Table) (externs : ℕ) → ((i : ℕ) → AllByRecursion (IsRowOf table) (rows_of_extern table i)) → AllByRecursion (IsRowOf table) (extern_rows table externs)
+unfolding extern_rows
+extern_rows_are table externs each = all_numbers (IsRowOf table) (rows_of_extern table) 0 externs each
+
+pub are_rows : (ms : List MethodPlan) (externs : ℕ) (table : Table) → AllByRecursion (IsRowOf table) (table_rows ms externs table)
 unfolding columns_of
-are_rows ms tables.Module = (refl, tt)
-are_rows ms tables.TypeRef = all_map (IsRowOf tables.TypeRef) type_ref_row types (λ (name : Name). refl)
-are_rows ms tables.TypeDef = (refl, (refl, tt))
-are_rows ms tables.Field = tt
-are_rows ms tables.MethodDef = all_each (IsRowOf tables.MethodDef) (rows_of_method tables.MethodDef) 0 ms (λ (i : ℕ) (m : MethodPlan). (refl, tt))
-are_rows ms tables.Param = tt
-are_rows ms tables.MemberRef = all_map (IsRowOf tables.MemberRef) member_ref_row calls (λ (call : Name × Blob). refl)
-are_rows ms tables.StandAloneSig = all_each (IsRowOf tables.StandAloneSig) (rows_of_method tables.StandAloneSig) 0 ms (λ (i : ℕ) (m : MethodPlan). locals_row_is i (has_locals m))
-are_rows ms tables.ModuleRef = tt
-are_rows ms tables.TypeSpec = tt
-are_rows ms tables.Assembly = (refl, tt)
-are_rows ms tables.AssemblyRef = all_map (IsRowOf tables.AssemblyRef) assembly_ref_row linked (λ (name : Name). refl)
-are_rows ms tables.MethodSpec =
+are_rows ms externs tables.Module = (refl, tt)
+are_rows ms externs tables.TypeRef =
+    all_append (IsRowOf tables.TypeRef) (map type_ref_row types) (extern_rows tables.TypeRef externs)
+    (all_map (IsRowOf tables.TypeRef) type_ref_row types (λ (name : Name). refl))
+    (extern_rows_are tables.TypeRef externs (λ (i : ℕ). (refl, tt)))
+are_rows ms externs tables.TypeDef = (refl, (refl, tt))
+are_rows ms externs tables.Field = tt
+are_rows ms externs tables.MethodDef = all_each (IsRowOf tables.MethodDef) (rows_of_method tables.MethodDef) 0 ms (λ (i : ℕ) (m : MethodPlan). (refl, tt))
+are_rows ms externs tables.Param = tt
+are_rows ms externs tables.MemberRef =
+    all_append (IsRowOf tables.MemberRef) (map member_ref_row calls) (extern_rows tables.MemberRef externs)
+    (all_map (IsRowOf tables.MemberRef) member_ref_row calls (λ (call : Name × Blob). refl))
+    (extern_rows_are tables.MemberRef externs (λ (i : ℕ). (refl, tt)))
+are_rows ms externs tables.StandAloneSig = all_each (IsRowOf tables.StandAloneSig) (rows_of_method tables.StandAloneSig) 0 ms (λ (i : ℕ) (m : MethodPlan). locals_row_is i (has_locals m))
+are_rows ms externs tables.ModuleRef = tt
+are_rows ms externs tables.TypeSpec = tt
+are_rows ms externs tables.Assembly = (refl, tt)
+are_rows ms externs tables.AssemblyRef =
+    all_append (IsRowOf tables.AssemblyRef) (map assembly_ref_row assemblies) (extern_rows tables.AssemblyRef externs)
+    (all_map (IsRowOf tables.AssemblyRef) assembly_ref_row assemblies (λ (name : Name). refl))
+    (extern_rows_are tables.AssemblyRef externs (λ (i : ℕ). (refl, tt)))
+are_rows ms externs tables.MethodSpec =
     all_append (IsRowOf tables.MethodSpec) (map (method_spec_row names.Result) instantiations) (map (method_spec_row names.OldValue) instantiations)
     (all_map (IsRowOf tables.MethodSpec) (method_spec_row names.Result) instantiations (λ (by : Blob). refl))
     (all_map (IsRowOf tables.MethodSpec) (method_spec_row names.OldValue) instantiations (λ (by : Blob). refl))
@@ -74,7 +91,7 @@ are_rows ms tables.MethodSpec =
 
 -- The width of a row of a table, as it is read.
 abbrev pub width_of : Layout → Table → ℕ
-width_of l table = read_width (counts_of l.methods l.locals) (written.heap_sizes l) (table_number table)
+width_of l table = read_width (counts_of l.methods l.locals l.externs) (written.heap_sizes l) (table_number table)
 
 pub row_has_width : (l : Layout) (table : Table) (row : List Field) → IsRowOf table row → row_width l row ≡ width_of l table
 unfolding read_width

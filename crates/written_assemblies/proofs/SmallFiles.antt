@@ -3,7 +3,8 @@ use Rattle.std.proofs.Common.{◌≡◌, ℕ, zero, suc, ◌+◌, ◌*◌, ◌�
 use Rattle.std.specs.Prelude.{codes, nat_lt, ◌/◌, ◌%◌}
 use Rattle.std.specs.Bool.{IsTrue}
 use Rattle.std.specs.Fmt.{decimal}
-use Rattle.std.specs.List.{AllByRecursion, flat_map, list_all, sum_by}
+use Rattle.std.specs.Str.{bytes_eq}
+use Rattle.std.specs.List.{AllByRecursion, flat_map, list_all, range_with_len, sum_by}
 use Rattle.std.proofs.lemmas.Bool.{le-leb}
 use Rattle.std.proofs.lemmas.Fmt.{length-decimal-le}
 use Rattle.std.proofs.lemmas.List.{length-append, length-map}
@@ -30,14 +31,15 @@ use Rattle.asm_writer.specs.Generator.{constant_of, generated, method_at, method
 use Rattle.asm_writer.specs.Headers.{cli_header_size, file_alignment, section_header}
 use Rattle.asm_writer.specs.Layout.{index, layout_of}
 use Rattle.asm_writer.specs.Limits.{is_within}
+use Rattle.asm_writer.specs.Linked.{alone}
 use Rattle.asm_writer.specs.Metadata.{root_size}
-use Rattle.asm_writer.specs.Names.{cited_names, method_name_item, name_item, name_text, string_items, zero_ended}
+use Rattle.asm_writer.specs.Names.{cited_names, method_name_item, name_item, name_text, own_name_items, string_items, zero_ended}
 use Rattle.asm_writer.specs.Numbers.{number_width, numbers_bytes, numbers_width}
 use Rattle.asm_writer.specs.Padding.{round_up}
 use Rattle.asm_writer.specs.Plans.{Method, Plan, method_value, value}
-use Rattle.asm_writer.specs.Rows.{fixed_rows, rows_of_method}
+use Rattle.asm_writer.specs.Rows.{fixed_rows, extern_rows, rows_of_extern, rows_of_method}
 use Rattle.asm_writer.specs.Signatures.{blob, compressed, local_blob, local_signature, signature, signature_blob, type_bytes}
-use Rattle.asm_writer.specs.Sizes.{bodies_size, body_size, count_size, field_width, file_size, fits, headers_size, items_size, metadata_size, row_width, rows_width, section_size, table_size, tables_size}
+use Rattle.asm_writer.specs.Sizes.{bodies_size, body_size, count_size, field_width, file_size, fits, linked_fits, linked_size, headers_size, items_size, metadata_size, row_width, rows_width, section_size, table_size, tables_size}
 use Rattle.asm_writer.specs.Stream.{stream_numbers, tables_stream}
 use Rattle.asm_writer.specs.Tables.{all_tables}
 use Rattle.asm_writer.specs.Templates.{args_of, array_sum_code, bad_code, code_of, constant_code, div_code, fill_code, locals_of, sum_code, template_of}
@@ -262,10 +264,13 @@ field_few : (l : Layout) (field : Field) → field_width l field ≤ widest fiel
 field_few l (fields.Plain number) = omega arith
 field_few l (fields.Strings name) = index_few _ _
 field_few l (fields.MethodName method) = index_few _ _
+field_few l fields.OwnName = index_few _ _
+field_few l (fields.ExternName index part) = index_few _ _
 field_few l (fields.Guid n) = omega arith
 field_few l (fields.Blobs cited) = index_few _ _
 field_few l (fields.MethodSignature method) = index_few _ _
 field_few l (fields.MethodLocals method) = index_few _ _
+field_few l (fields.ExternSignature index) = index_few _ _
 field_few l (fields.MethodBody method) = omega arith
 field_few l (fields.Row table row) = index_few _ _
 field_few l (fields.Coded kind table row) = index_few _ _
@@ -305,20 +310,33 @@ fixed_few : (l : Layout) (rows : List (List Field)) (n most : ℕ) → widest_ro
     → rows_width l rows ≤ 400 + 100 * n
 fixed_few l rows n most few = let below = rows_few l rows in omega arith
 
-table_few : (l : Layout) (ms : List MethodPlan) (table : Table) → table_size l ms table ≤ 400 + 100 * length ms
-table_few l ms tables.MethodDef = let rows = each_rows_few l (rows_of_method tables.MethodDef) (λ (at : ℕ) (m : MethodPlan). omega arith) 0 ms in omega arith
-table_few l ms tables.StandAloneSig = let rows = each_rows_few l (rows_of_method tables.StandAloneSig) (λ (at : ℕ) (m : MethodPlan). locals_widest (has_locals m) at) 0 ms in omega arith
-table_few l ms tables.Module = fixed_few l (fixed_rows tables.Module) (length ms) 0 (omega arith)
-table_few l ms tables.TypeRef = fixed_few l (fixed_rows tables.TypeRef) (length ms) 0 (omega arith)
-table_few l ms tables.TypeDef = fixed_few l (fixed_rows tables.TypeDef) (length ms) 0 (omega arith)
-table_few l ms tables.Field = fixed_few l (fixed_rows tables.Field) (length ms) 0 (omega arith)
-table_few l ms tables.Param = fixed_few l (fixed_rows tables.Param) (length ms) 0 (omega arith)
-table_few l ms tables.MemberRef = fixed_few l (fixed_rows tables.MemberRef) (length ms) 0 (omega arith)
-table_few l ms tables.ModuleRef = fixed_few l (fixed_rows tables.ModuleRef) (length ms) 0 (omega arith)
-table_few l ms tables.TypeSpec = fixed_few l (fixed_rows tables.TypeSpec) (length ms) 0 (omega arith)
-table_few l ms tables.Assembly = fixed_few l (fixed_rows tables.Assembly) (length ms) 0 (omega arith)
-table_few l ms tables.AssemblyRef = fixed_few l (fixed_rows tables.AssemblyRef) (length ms) 0 (omega arith)
-table_few l ms tables.MethodSpec = fixed_few l (fixed_rows tables.MethodSpec) (length ms) 0 (omega arith)
+no_externs : (table : Table) (n : ℕ) → n ≡ 0 → extern_rows table n ≡ []
+unfolding extern_rows
+no_externs table n none = ap (λ (k : ℕ). flat_map (rows_of_extern table) (range_with_len 0 k)) none
+
+-- The same of rows that those of externs follow, where there is none.
+alone_few : (l : Layout) (rows : List (List Field)) (table : Table) (n : ℕ) → l.externs ≡ 0 → widest_rows rows ≤ 400
+    → rows_width l (rows ++ extern_rows table l.externs) ≤ 400 + 100 * n
+alone_few l rows table n none few =
+    let both = rows_append l rows (extern_rows table l.externs) in
+    let more : rows_width l (extern_rows table l.externs) ≡ 0 = ap (rows_width l) (no_externs table l.externs none) ∙ no_rows l in
+    let below = rows_few l rows in
+    omega arith
+
+table_few : (l : Layout) (ms : List MethodPlan) (table : Table) → l.externs ≡ 0 → table_size l ms table ≤ 400 + 100 * length ms
+table_few l ms tables.MethodDef none = let rows = each_rows_few l (rows_of_method tables.MethodDef) (λ (at : ℕ) (m : MethodPlan). omega arith) 0 ms in omega arith
+table_few l ms tables.StandAloneSig none = let rows = each_rows_few l (rows_of_method tables.StandAloneSig) (λ (at : ℕ) (m : MethodPlan). locals_widest (has_locals m) at) 0 ms in omega arith
+table_few l ms tables.Module none = fixed_few l (fixed_rows tables.Module) (length ms) 0 (omega arith)
+table_few l ms tables.TypeRef none = alone_few l (fixed_rows tables.TypeRef) tables.TypeRef (length ms) none (omega arith)
+table_few l ms tables.TypeDef none = fixed_few l (fixed_rows tables.TypeDef) (length ms) 0 (omega arith)
+table_few l ms tables.Field none = fixed_few l (fixed_rows tables.Field) (length ms) 0 (omega arith)
+table_few l ms tables.Param none = fixed_few l (fixed_rows tables.Param) (length ms) 0 (omega arith)
+table_few l ms tables.MemberRef none = alone_few l (fixed_rows tables.MemberRef) tables.MemberRef (length ms) none (omega arith)
+table_few l ms tables.ModuleRef none = fixed_few l (fixed_rows tables.ModuleRef) (length ms) 0 (omega arith)
+table_few l ms tables.TypeSpec none = fixed_few l (fixed_rows tables.TypeSpec) (length ms) 0 (omega arith)
+table_few l ms tables.Assembly none = fixed_few l (fixed_rows tables.Assembly) (length ms) 0 (omega arith)
+table_few l ms tables.AssemblyRef none = alone_few l (fixed_rows tables.AssemblyRef) tables.AssemblyRef (length ms) none (omega arith)
+table_few l ms tables.MethodSpec none = fixed_few l (fixed_rows tables.MethodSpec) (length ms) 0 (omega arith)
 
 -- Of the tables, of which each has at most so many bytes.
 all_few : (f : Table → ℕ) (most : ℕ) → ((table : Table) → f table ≤ most) → (among : List Table) (count : ℕ)
@@ -344,33 +362,50 @@ front_few : (l : Layout) → numbers_width (stream_numbers l) ≡ 24
 unfolding numbers_width
 front_few l = refl
 
-tables_few : (l : Layout) (ms : List MethodPlan) → tables_size l ms ≤ 6000 + 1300 * length ms
+tables_few : (l : Layout) (ms : List MethodPlan) → l.externs ≡ 0 → tables_size l ms ≤ 6000 + 1300 * length ms
 unfolding tables_size
-tables_few l ms =
+tables_few l ms none =
     let counts = all_few (count_size l) 4 (count_few l) all_tables 13 refl in
-    let rows = all_few (table_size l ms) (400 + 100 * length ms) (table_few l ms) all_tables 13 refl in
+    let rows = all_few (table_size l ms) (400 + 100 * length ms) (λ (table : Table). table_few l ms table none) all_tables 13 refl in
     let front = front_few l in
     let below = round_up_below 4 (numbers_width (stream_numbers l) + sum_by (count_size l) all_tables + sum_by (table_size l ms) all_tables) (omega arith) in
     omega arith
 
 -- ---- the whole
 
+own_name_by : (same : Bool) (name : List ℕ) → length name ≤ 5 → items_size (if same then [] else zero_ended name ∷ []) ≤ 400
+own_name_by true name short = omega arith
+own_name_by false name short =
+    let one = zero_few name (omega arith) in
+    let all = sum_by-cons length (zero_ended name) [] in
+    let none : items_size [] ≡ 0 = refl in
+    omega arith
+
+own_name_few : (plan : AsmPlan) → HasShortNames plan → items_size (own_name_items plan plan.class.items) ≤ 400
+unfolding own_name_items
+own_name_few plan short = own_name_by (bytes_eq plan.class.items plan.class.items) plan.class.items short.1
+
 metadata_few : (plan : AsmPlan) → HasShortNames plan → AreSmall plan.methods.items
-    → metadata_size plan ≤ 16000 + 1500 * length plan.methods.items
+    → metadata_size (alone plan) ≤ 16500 + 1500 * length plan.methods.items
 unfolding metadata_size root_size
 metadata_few plan short small =
-    let l = layout_of plan in
+    let l = layout_of (alone plan) in
     let ms = plan.methods.items in
     let root = length_root 0 (tables_stream l ms) l in
-    let tables = tables_few l ms in
+    let tables = tables_few l ms refl in
     let cited = names_few plan short cited_names in
     let own_names = few_texts method_name_item name_few ms small in
     let names = sum_by-append length (map (name_item plan) cited_names) (map method_name_item ms) in
-    let strings = round_up_below 4 (items_size (string_items plan)) (omega arith) in
+    let none : items_size [] ≡ 0 = refl in
+    let externs = sum_by-append length (map (name_item plan) cited_names ++ map method_name_item ms) [] in
+    let own_name = own_name_few plan short in
+    let all_names = sum_by-append length (map (name_item plan) cited_names ++ map method_name_item ms ++ []) (own_name_items plan plan.class.items) in
+    let strings = round_up_below 4 (items_size (string_items (alone plan))) (omega arith) in
     let own_blobs = few_items method_blob_items blobs_few ms small in
     let cited_blob = cited_few in
     let blobs = sum_by-append length (map blob_item cited_blobs) (flat_map method_blob_items ms) in
-    let heap = round_up_below 4 (items_size (blob_items ms)) (omega arith) in
+    let all_blobs = sum_by-append length (map blob_item cited_blobs ++ flat_map method_blob_items ms) [] in
+    let heap = round_up_below 4 (items_size (blob_items ms [])) (omega arith) in
     omega arith
 
 headers_few : headers_size false ≡ 512
@@ -379,13 +414,13 @@ headers_few = refl
 
 file_few : (plan : AsmPlan) → HasShortNames plan → AreSmall plan.methods.items → plan.wide ≡ false
     → file_size plan ≤ 20000 + 1600 * length plan.methods.items
-unfolding file_size section_size numbers_width
+unfolding file_size linked_size section_size numbers_width
 file_few plan short small narrow =
     let metadata = metadata_few plan short small in
     let bodies = few_of body_size body_few plan.methods.items small in
     let front : cli_header_size ≡ 72 = refl in
-    let is : section_size plan ≡ round_up file_alignment (cli_header_size + bodies_size plan.methods.items + metadata_size plan) = refl in
-    let whole = round_up_below file_alignment (cli_header_size + bodies_size plan.methods.items + metadata_size plan) (omega arith) in
+    let is : section_size (alone plan) ≡ round_up file_alignment (cli_header_size + bodies_size plan.methods.items + metadata_size (alone plan)) = refl in
+    let whole = round_up_below file_alignment (cli_header_size + bodies_size plan.methods.items + metadata_size (alone plan)) (omega arith) in
     let before : headers_size plan.wide ≡ 512 = ap headers_size narrow ∙ headers_few in
     omega arith
 
@@ -465,7 +500,7 @@ both_true a b p q = rw (p, q) refl
 -- Of at most 10,000 methods it keeps the limits.
 pub generated_fits : (plan : AsmPlan) (seed count : ℕ) → count ≤ 10000 → value plan ≡ generated seed count
     → IsTrue (fits plan)
-unfolding fits
+unfolding fits linked_fits file_size
 generated_fits plan seed count few is =
     let methods = ap (λ (p : Plan). p.methods) is in
     let small = small_methods plan.methods.items (subst (AllByRecursion IsSmall) (sym methods) (each_small 0 seed count (omega (arith, few)))) in

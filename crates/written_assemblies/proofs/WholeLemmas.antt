@@ -10,79 +10,79 @@ use Rattle.metadata_tables.specs.TableTests.{first_table_fault}
 use Rattle.pe_reader.specs.Addresses.{metadata_at}
 use Rattle.asm_image.specs.Faults.{large_test, types_tests, methods_tests, file_tests, tables_tests, metadata_tests, assembly_tests, FirstBroken}
 use Rattle.asm_image.specs.Rows.{rows_of, methods_of}
-use Rattle.asm_writer.specs.declared.plan.AsmPlan.{AsmPlan}
-use Rattle.asm_writer.specs.Assembly.{assembly_bytes}
+use Rattle.asm_writer.specs.Linked.{Linked}
+use Rattle.asm_writer.specs.Assembly.{linked_bytes}
 use Rattle.asm_writer.specs.Layout.{layout_of}
 use Rattle.asm_writer.specs.Limits.{is_within}
-use Rattle.asm_writer.specs.Sizes.{fits}
-use Rattle.asm_writer.proofs.Lengths.{length_assembly}
+use Rattle.asm_writer.specs.Sizes.{linked_fits}
+use Rattle.asm_writer.proofs.Lengths.{length_linked}
 use Rattle.written_assemblies.specs.Methods.{written_methods}
 use Rattle.written_assemblies.specs.Readable.{IsReadable}
-use Rattle.written_assemblies.specs.Written.{written_metadata}
+use Rattle.written_assemblies.specs.Written.{linked_metadata}
 use Rattle.written_assemblies.proofs.PartLemmas.{stands_reach}
 use Rattle.written_assemblies.proofs.ImageLemmas.{stands_bodies}
 use Rattle.written_assemblies.proofs.MetadataLemmas.{metadata_passes}
 use Rattle.written_assemblies.proofs.ReadLemmas.{IsTaken, rows_pass, methods_are}
-use Rattle.written_assemblies.proofs.PlanLemmas.{few_bytes, few_in_file, few_in_metadata, metadata_laid, file_is, plan_passes, plan_metadata}
+use Rattle.written_assemblies.proofs.PlanLemmas.{few_bytes, few_in_file, few_in_metadata, few_externs, metadata_laid, file_is, source_passes, source_metadata}
 
 and_second : (a b : Bool) → (a && b) ≡ true → b ≡ true
 and_second true b both = both
 and_second false b both = absurd cc
 
-all_within : (plan : AsmPlan) → IsTrue (fits plan) → list_all is_within plan.methods.items ≡ true
-unfolding fits
-all_within plan fit = and_second _ _ fit
+all_within : (source : Linked) → IsTrue (linked_fits source) → list_all is_within source.plan.methods.items ≡ true
+unfolding linked_fits
+all_within source fit = and_second _ _ (and_second _ _ fit)
 
-few_bodies : (plan : AsmPlan) → IsTrue (fits plan) → length (layout_of plan).bodies.bytes < 2 ^ 31
-few_bodies plan fit =
-    let few = few_in_file plan fit in
-    let same = ap length (file_is plan) in
-    let end = stands_reach _ _ _ (stands_bodies plan.wide (layout_of plan).bodies.bytes (written_metadata plan)) in
+few_bodies : (source : Linked) → IsTrue (linked_fits source) → length (layout_of source).bodies.bytes < 2 ^ 31
+few_bodies source fit =
+    let few = few_in_file source fit in
+    let same = ap length (file_is source) in
+    let end = stands_reach _ _ _ (stands_bodies source.plan.wide (layout_of source).bodies.bytes (linked_metadata source)) in
     omega (arith, few, same, end)
 
-pub is_taken : (plan : AsmPlan) → IsTrue (fits plan) → IsReadable plan → IsTaken plan
-is_taken plan fit readable = record {
-  sound = record { counts = record { methods = refl; locals = refl }; few = few_in_metadata plan fit };
+pub is_taken : (source : Linked) → IsTrue (linked_fits source) → IsReadable source.plan → IsTaken source
+is_taken source fit readable = record {
+  sound = record { counts = record { methods = refl; locals = refl }; externs = few_externs source fit; few = few_in_metadata source fit };
   readable = readable;
-  within = all_within plan fit;
-  few = few_bodies plan fit;
+  within = all_within source fit;
+  few = few_bodies source fit;
 }
 
-pub tables_pass : (plan : AsmPlan) → IsTrue (fits plan) → first_table_fault (written_metadata plan) ≡ None
-tables_pass plan fit =
-    ap first_table_fault (metadata_laid plan)
-    ∙ metadata_passes (layout_of plan) plan.methods.items (record { counts = record { methods = refl; locals = refl }; few = few_in_metadata plan fit })
+pub tables_pass : (source : Linked) → IsTrue (linked_fits source) → first_table_fault (linked_metadata source) ≡ None
+tables_pass source fit =
+    ap first_table_fault (metadata_laid source)
+    ∙ metadata_passes (layout_of source) source.plan.methods.items (record { counts = record { methods = refl; locals = refl }; externs = few_externs source fit; few = few_in_metadata source fit })
 
-file_tests_pass : (plan : AsmPlan) (bytes : List ℕ) → IsTrue (fits plan) → bytes ≡ assembly_bytes plan → first_of (file_tests bytes) ≡ None
+file_tests_pass : (source : Linked) (bytes : List ℕ) → IsTrue (linked_fits source) → bytes ≡ linked_bytes source → first_of (file_tests bytes) ≡ None
 unfolding file_tests large_test first_of
-file_tests_pass plan bytes fit is =
-    let size = ap length is ∙ length_assembly plan in
-    let few = few_bytes plan fit in
+file_tests_pass source bytes fit is =
+    let size = ap length is ∙ length_linked source in
+    let few = few_bytes source fit in
     let small : length bytes ≤ MAX_FILE_BYTES = omega (arith, size, few) in
-    rw (le-leb (length bytes) MAX_FILE_BYTES small, plan_passes plan bytes fit is) refl
+    rw (le-leb (length bytes) MAX_FILE_BYTES small, source_passes source bytes fit is) refl
 
-tables_tests_pass : (plan : AsmPlan) (base : ℕ) → IsTrue (fits plan) → first_of (tables_tests (written_metadata plan) base) ≡ None
+tables_tests_pass : (source : Linked) (base : ℕ) → IsTrue (linked_fits source) → first_of (tables_tests (linked_metadata source) base) ≡ None
 unfolding tables_tests first_of
-tables_tests_pass plan base fit = rw (tables_pass plan fit) refl
+tables_tests_pass source base fit = rw (tables_pass source fit) refl
 
-metadata_tests_pass : (plan : AsmPlan) (base : ℕ) → IsTrue (fits plan) → IsReadable plan → first_of (metadata_tests (written_metadata plan) base) ≡ None
+metadata_tests_pass : (source : Linked) (base : ℕ) → IsTrue (linked_fits source) → IsReadable source.plan → first_of (metadata_tests (linked_metadata source) base) ≡ None
 unfolding metadata_tests
-metadata_tests_pass plan base fit readable =
-    let rows : first_of (types_tests (written_metadata plan) base ++ methods_tests (written_metadata plan) base) ≡ None =
-    ap (λ (md : List ℕ). first_of (types_tests md base ++ methods_tests md base)) (metadata_laid plan) ∙ rows_pass plan base (is_taken plan fit readable) in
-    let front = tables_tests_pass plan base fit in
-    ap first_of (append_assoc (tables_tests (written_metadata plan) base) (types_tests (written_metadata plan) base) (methods_tests (written_metadata plan) base))
+metadata_tests_pass source base fit readable =
+    let rows : first_of (types_tests (linked_metadata source) base ++ methods_tests (linked_metadata source) base) ≡ None =
+    ap (λ (md : List ℕ). first_of (types_tests md base ++ methods_tests md base)) (metadata_laid source) ∙ rows_pass source base (is_taken source fit readable) in
+    let front = tables_tests_pass source base fit in
+    ap first_of (append_assoc (tables_tests (linked_metadata source) base) (types_tests (linked_metadata source) base) (methods_tests (linked_metadata source) base))
     ∙ first_of-append_none _ _ front ∙ rows
 
 -- No test fails.
-pub whole_passes : (plan : AsmPlan) (bytes : List ℕ) → IsTrue (fits plan) → IsReadable plan → bytes ≡ assembly_bytes plan → FirstBroken bytes ≡ None
+pub whole_passes : (source : Linked) (bytes : List ℕ) → IsTrue (linked_fits source) → IsReadable source.plan → bytes ≡ linked_bytes source → FirstBroken bytes ≡ None
 unfolding FirstBroken assembly_tests
-whole_passes plan bytes fit readable is =
-    first_of-append_none _ _ (file_tests_pass plan bytes fit is)
-    ∙ ap (λ (md : List ℕ). first_of (metadata_tests md (metadata_at bytes))) (plan_metadata plan bytes fit is)
-    ∙ metadata_tests_pass plan (metadata_at bytes) fit readable
+whole_passes source bytes fit readable is =
+    first_of-append_none _ _ (file_tests_pass source bytes fit is)
+    ∙ ap (λ (md : List ℕ). first_of (metadata_tests md (metadata_at bytes))) (source_metadata source bytes fit is)
+    ∙ metadata_tests_pass source (metadata_at bytes) fit readable
 
 -- The methods that are read.
-pub whole_methods : (plan : AsmPlan) (bytes : List ℕ) → IsTrue (fits plan) → IsReadable plan → bytes ≡ assembly_bytes plan → methods_of bytes ≡ written_methods plan
-whole_methods plan bytes fit readable is =
-    ap rows_of (plan_metadata plan bytes fit is ∙ metadata_laid plan) ∙ methods_are plan (is_taken plan fit readable)
+pub whole_methods : (source : Linked) (bytes : List ℕ) → IsTrue (linked_fits source) → IsReadable source.plan → bytes ≡ linked_bytes source → methods_of bytes ≡ written_methods source.plan
+whole_methods source bytes fit readable is =
+    ap rows_of (source_metadata source bytes fit is ∙ metadata_laid source) ∙ methods_are source (is_taken source fit readable)

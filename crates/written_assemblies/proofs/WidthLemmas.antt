@@ -22,7 +22,7 @@ use Rattle.written_assemblies.specs.Columns.{column_of}
 
 -- ---- rows of tables
 
-pub count_here : (l : Layout) (t : Table) → slice_index (counts_of l.methods l.locals) (table_number t) ≡ row_count l t
+pub count_here : (l : Layout) (t : Table) → slice_index (counts_of l.methods l.locals l.externs) (table_number t) ≡ row_count l t
 unfolding counts_of
 count_here l tables.Module = refl
 count_here l tables.TypeRef = refl
@@ -41,7 +41,7 @@ count_here l tables.MethodSpec = refl
 below : (n limit : ℕ) → nat_lt n limit ≡ not (nat_le limit n)
 below n limit = grind arith
 
-all_below : (l : Layout) (limit : ℕ) (ts : List Table) → list_all (λ number. nat_lt (slice_index (counts_of l.methods l.locals) number) limit) (map table_number ts) ≡ not (list_any (λ t. nat_le limit (row_count l t)) ts)
+all_below : (l : Layout) (limit : ℕ) (ts : List Table) → list_all (λ number. nat_lt (slice_index (counts_of l.methods l.locals l.externs) number) limit) (map table_number ts) ≡ not (list_any (λ t. nat_le limit (row_count l t)) ts)
 all_below l limit [] = refl
 all_below l limit (t ∷ ts) = grind (arith, count_here l t, below (row_count l t) limit, all_below l limit ts)
 
@@ -50,7 +50,7 @@ index_width true n = refl
 index_width false n = refl
 
 rows_width : (l : Layout) (ts : List Table) (bits rest row : ℕ) → 16 - bits ≡ rest
-    → number_width (index (is_wide_index l ts bits) row) ≡ row_index_width (counts_of l.methods l.locals) (map table_number ts) rest
+    → number_width (index (is_wide_index l ts bits) row) ≡ row_index_width (counts_of l.methods l.locals l.externs) (map table_number ts) rest
 rows_width l ts bits rest row same =
     index_width (is_wide_index l ts bits) row
     ∙ ap (λ (limit : ℕ). if not (list_any (λ t. nat_le (2 ^ limit) (row_count l t)) ts) then 2 else 4) same
@@ -81,7 +81,7 @@ blobs_bit false false = refl
 -- A field of a column has its width.
 abbrev pub HasWidth : Layout → Field → Option Column → Type 0
 HasWidth l field None = Unit {0}
-HasWidth l field (Some column) = field_width l field ≡ width (counts_of l.methods l.locals) (written.heap_sizes l) column
+HasWidth l field (Some column) = field_width l field ≡ width (counts_of l.methods l.locals l.externs) (written.heap_sizes l) column
 
 pub has_width : (l : Layout) (field : Field) → HasWidth l field (column_of field)
 unfolding width
@@ -91,10 +91,13 @@ has_width l (fields.Plain (Four n)) = refl
 has_width l (fields.Plain (Eight n)) = tt
 has_width l (fields.Strings name) = index_width _ _ ∙ strings_bit (is_wide_heap l.strings) (is_wide_heap l.blobs)
 has_width l (fields.MethodName m) = index_width _ _ ∙ strings_bit (is_wide_heap l.strings) (is_wide_heap l.blobs)
+has_width l fields.OwnName = index_width _ _ ∙ strings_bit (is_wide_heap l.strings) (is_wide_heap l.blobs)
+has_width l (fields.ExternName index part) = index_width _ _ ∙ strings_bit (is_wide_heap l.strings) (is_wide_heap l.blobs)
 has_width l (fields.Guid n) = guids_bit (is_wide_heap l.strings) (is_wide_heap l.blobs)
 has_width l (fields.Blobs blob) = index_width _ _ ∙ blobs_bit (is_wide_heap l.strings) (is_wide_heap l.blobs)
 has_width l (fields.MethodSignature m) = index_width _ _ ∙ blobs_bit (is_wide_heap l.strings) (is_wide_heap l.blobs)
 has_width l (fields.MethodLocals m) = index_width _ _ ∙ blobs_bit (is_wide_heap l.strings) (is_wide_heap l.blobs)
+has_width l (fields.ExternSignature index) = index_width _ _ ∙ blobs_bit (is_wide_heap l.strings) (is_wide_heap l.blobs)
 has_width l (fields.MethodBody m) = refl
 has_width l (fields.Row table row) = rows_width l (table ∷ []) 0 16 row refl
 has_width l (fields.Coded kinds.TypeDefOrRef table row) = rows_width l (coded_tables kinds.TypeDefOrRef) 2 14 (coded_value kinds.TypeDefOrRef table row) refl
@@ -107,7 +110,7 @@ same_Some : (a b : Column) → Some a ≡ Some b → a ≡ b
 same_Some a b same = cc
 
 pub widths_are : (l : Layout) (row : List Field) (cs : List Column) → map column_of row ≡ map Some cs
-    → row_width l row ≡ total_width (counts_of l.methods l.locals) (written.heap_sizes l) cs
+    → row_width l row ≡ total_width (counts_of l.methods l.locals l.externs) (written.heap_sizes l) cs
 unfolding row_width
 widths_are l [] [] same = refl
 widths_are l [] (c ∷ cs) same = absurd cc

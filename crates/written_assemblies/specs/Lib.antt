@@ -5,6 +5,7 @@ pub mod Counts
 pub mod Columns
 pub mod Readable
 pub mod Methods
+pub mod Externs
 pub mod BodiesRead
 pub mod GeneratedFiles
 pub mod Laws

@@ -28,7 +28,7 @@ pub fn generated_plan(alloc: Global, seed: u32, count: u32) -> Result<AsmPlan, N
 /// The file of the assembly of so many methods that is generated from a seed. It is not refused.
 ///
 /// Cost: linear in the count. The plan and the parts of the file are held until the file is made.
-#[tactic(auto, using(crate::proofs::GeneratedFiles::generated_is, crate::proofs::WholeLemmas::whole_passes))]
+#[tactic(auto, using(crate::proofs::GeneratedFiles::generated_is, crate::proofs::AloneLemmas::alone_passes))]
 pub fn generated_file(alloc: Global, seed: u32, count: u32) -> Result<Vec<u8>, NoMemory>
     requires few { count ≤ 10000 }
     ensures value { IfOk result (λ file. file.items ≡ generated_file seed count) }

@@ -12,7 +12,7 @@ use asm_writer::AsmPlan;
 use pe_reader::Image;
 
 /// The file that was written for a plan, as its headers are read. They have no fault.
-#[tactic(auto, using(crate::proofs::PlanLemmas::is_short, crate::proofs::PlanLemmas::plan_passes, crate::proofs::PlanLemmas::plan_metadata, crate::proofs::PlanLemmas::plan_streams, crate::proofs::PlanLemmas::plan_strings, crate::proofs::PlanLemmas::plan_blobs))]
+#[tactic(auto, using(crate::proofs::AloneLemmas::is_short, crate::proofs::AloneLemmas::plan_passes, crate::proofs::AloneLemmas::plan_metadata, crate::proofs::AloneLemmas::plan_streams, crate::proofs::AloneLemmas::plan_strings, crate::proofs::AloneLemmas::plan_blobs))]
 pub fn written_image<'a>(plan: &AsmPlan, bytes: &'a [u8]) -> Image<'a>
     requires written { bytes.now ≡ assembly_bytes plan.now }
     requires fits { IsTrue (fits plan.now) }

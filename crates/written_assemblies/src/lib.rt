@@ -5,6 +5,6 @@ mod assembly;
 mod generated;
 mod image;
 
-pub use assembly::{read_accepted, read_written};
+pub use assembly::{read_accepted, read_linked, read_written};
 pub use generated::{generated_file, generated_plan};
 pub use image::written_image;

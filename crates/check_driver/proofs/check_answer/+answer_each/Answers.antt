@@ -10,16 +10,14 @@ use Rattle.assembly_answers.proofs.PlainFaults.{assembly_fault_plain}
 use Rattle.command_words.specs.Words.{words_bytes}
 use Rattle.unit_builder.specs.Outcomes.{entries_of}
 use Rattle.unit_verdicts.specs.Asked.{Asks}
-use Rattle.unit_verdicts.specs.Picks.{limit_manner}
 use Rattle.unit_verdicts.specs.VerdictCache.{manner_of}
-use Rattle.unit_verdicts.proofs.Asking.{asks_all, asks_front, asks_none, asks_nothing}
+use Rattle.unit_verdicts.proofs.Asking.{asks_all, asks_front, asks_nothing}
 use Rattle.check_driver.specs.Asked.{check_keys, judged_keys, with_judged}
 use Rattle.check_driver.specs.Checked.{IsReportable}
 use Rattle.check_driver.specs.Met.{bytes_read}
-use Rattle.check_driver.proofs.AlikeReports.{alike_first}
 use Rattle.check_driver.proofs.CheckParts.{if_ok, where_ok}
-use Rattle.check_driver.proofs.Judging.{asks_later, front_of_first, judged_more, judged_none}
-use Rattle.check_driver.proofs.SeveralFiles.{answer_of_first, answer_refused, asks_is, begun_first, begun_more, begun_of_first, first_is, gives_both, gives_is, gives_later_stop, gives_nothing, gives_stop, keys_of_first, no_answer, no_file, no_keys}
+use Rattle.check_driver.proofs.Judging.{asks_for_none, asks_later, front_of_first, judged_more, judged_none}
+use Rattle.check_driver.proofs.SeveralFiles.{answer_of_first, answer_refused, asks_is, begun_first, begun_more, begun_of_first, first_is, gives_both, gives_is, gives_later_stop, gives_nothing, gives_stop, keys_of_first, no_answer, no_file, no_keys, no_runnable, runnable_of_first, runnable_refused}
 use Rattle.check_driver.proofs.check_answer.+answer_each.Goals as goal
 
 -- ---- no file is left
@@ -32,16 +30,14 @@ returns-in_default-clause-answer g t c =
 pub returns-in_default-clause-asked : goal.returns-in_default-clause-asked
 returns-in_default-clause-asked g t c =
     asks_is c.args.cache.now _ [] (Ok 0) _ _ (ap check_keys (no_file c.args.given.now.read.now (rw (← c.requires.each) at c.in_default.len_below)))
-    (asks_none (Ok 0) _ _ refl)
+    (asks_for_none c.args.cache.now (Ok 0) _ _ refl)
 
 pub returns-in_default-clause-cache : goal.returns-in_default-clause-cache
 returns-in_default-clause-cache g t c =
     judged_none c.args.cache.now ∙ ap (with_judged c.args.cache.now) (sym (ap check_keys (no_file c.args.given.now.read.now (rw (← c.requires.each) at c.in_default.len_below))))
 
-pub returns-in_default-clause-alike : goal.returns-in_default-clause-alike
-returns-in_default-clause-alike g t c = λ honest.
-    no_answer (manner_of c.args.cache.now) (words_bytes c.args.given.now.words.now) c.args.given.now.indexes.now (bytes_read c.args.given.now.read.now) c.in_default.len_below
-    ∙ sym (no_answer (limit_manner c.args.cache.now.show) (words_bytes c.args.given.now.words.now) c.args.given.now.indexes.now (bytes_read c.args.given.now.read.now) c.in_default.len_below)
+pub returns-in_default-clause-known : goal.returns-in_default-clause-known
+returns-in_default-clause-known g t c = no_runnable c.args.given.now.read.now (rw (← c.requires.each) at c.in_default.len_below)
 
 -- ---- the first is refused
 
@@ -68,7 +64,7 @@ returns-in-Err-Bad-clause-asked g t c =
     c.in-len1-up-read.len_at_least refl c.bytes-item.is (c.as_bytes-name.ensures.value ∙ c.word_at.ensures) c.deref.ensures.value in
     let first : FirstBroken c.deref.result.now ≡ Some fault = (rw c.in-Err-Bad.field-0-is at c.in-Err-Bad.ensures.refused) fault refl in
     asks_is c.args.cache.now _ [] c.answer_refused.result _ _ (no_keys (manner_of c.args.cache.now) (words_bytes c.args.given.now.words.now) c.args.given.now.indexes.now c.args.given.now.read.now name c.deref.result.now is fault first)
-    (asks_none c.answer_refused.result _ _ refl)
+    (asks_for_none c.args.cache.now c.answer_refused.result _ _ refl)
 
 pub returns-in-Err-Bad-clause-cache : goal.returns-in-Err-Bad-clause-cache
 returns-in-Err-Bad-clause-cache g t c =
@@ -79,14 +75,14 @@ returns-in-Err-Bad-clause-cache g t c =
     let first : FirstBroken c.deref.result.now ≡ Some fault = (rw c.in-Err-Bad.field-0-is at c.in-Err-Bad.ensures.refused) fault refl in
     where_ok c.answer_refused.result (judged_none c.args.cache.now ∙ ap (with_judged c.args.cache.now) (sym (no_keys (manner_of c.args.cache.now) (words_bytes c.args.given.now.words.now) c.args.given.now.indexes.now c.args.given.now.read.now name c.deref.result.now is fault first)))
 
-pub returns-in-Err-Bad-clause-alike : goal.returns-in-Err-Bad-clause-alike
-returns-in-Err-Bad-clause-alike g t c = λ honest.
+pub returns-in-Err-Bad-clause-known : goal.returns-in-Err-Bad-clause-known
+returns-in-Err-Bad-clause-known g t c =
     let fault = c.in-Err-Bad.fault in
     let name = c.as_bytes-name.result.now in
     let is = first_is (words_bytes c.args.given.now.words.now) c.args.given.now.indexes.now c.args.given.now.read.now name c.deref.result.now (get_or c.args.given.now.indexes.now 0 0) c.bytes-item.result c.in-len1-up.len_at_least
     c.in-len1-up-read.len_at_least refl c.bytes-item.is (c.as_bytes-name.ensures.value ∙ c.word_at.ensures) c.deref.ensures.value in
     let first : FirstBroken c.deref.result.now ≡ Some fault = (rw c.in-Err-Bad.field-0-is at c.in-Err-Bad.ensures.refused) fault refl in
-    if_ok c.answer_refused.result (answer_refused (manner_of c.args.cache.now) (words_bytes c.args.given.now.words.now) c.args.given.now.indexes.now c.args.given.now.read.now name c.deref.result.now is fault first ∙ sym (answer_refused (limit_manner c.args.cache.now.show) (words_bytes c.args.given.now.words.now) c.args.given.now.indexes.now c.args.given.now.read.now name c.deref.result.now is fault first))
+    if_ok c.answer_refused.result (runnable_refused (manner_of c.args.cache.now) (words_bytes c.args.given.now.words.now) c.args.given.now.indexes.now c.args.given.now.read.now name c.deref.result.now is fault first)
 
 pub returns-in-Err-NoMemory-clause-asked : goal.returns-in-Err-NoMemory-clause-asked
 returns-in-Err-NoMemory-clause-asked g t c = asks_nothing _ _ interrupts.NoMemory _ _ refl refl
@@ -201,13 +197,11 @@ returns-in_ok-others-in-Ok-clause-cache g t c =
     judged_more c.args.cache.now c.answer_assembly.new.cache (judged_keys (entries_of c.deref.result.now)) judged _ _ c.in_ok-others-in-Ok.ensures.cache
     ∙ ap (with_judged c.args.cache.now) (sym (keys_of_first (manner_of c.args.cache.now) (words_bytes c.args.given.now.words.now) c.args.given.now.indexes.now c.args.given.now.read.now name c.deref.result.now is c.in-Ok.ensures.accepted))
 
-pub returns-in_ok-others-in-Ok-clause-alike : goal.returns-in_ok-others-in-Ok-clause-alike
-returns-in_ok-others-in-Ok-clause-alike g t c = λ honest.
+pub returns-in_ok-others-in-Ok-clause-known : goal.returns-in_ok-others-in-Ok-clause-known
+returns-in_ok-others-in-Ok-clause-known g t c =
     let name = c.as_bytes-name.result.now in
     let is = first_is (words_bytes c.args.given.now.words.now) c.args.given.now.indexes.now c.args.given.now.read.now name c.deref.result.now (get_or c.args.given.now.indexes.now 0 0) c.bytes-item.result c.in-len1-up.len_at_least
     c.in-len1-up-read.len_at_least refl c.bytes-item.is (c.as_bytes-name.ensures.value ∙ c.word_at.ensures) c.deref.ensures.value in
-    let judged = rw c.in-Ok.ensures.value.same at c.in_ok-status-in-Ok.ensures.cache in
     let known : IsReportable c.deref.result.now = rw c.in-Ok.ensures.value.same at c.in_ok-status-in-Ok.ensures.known in
-    answer_of_first (manner_of c.args.cache.now) (words_bytes c.args.given.now.words.now) c.args.given.now.indexes.now c.args.given.now.read.now name c.deref.result.now is c.in-Ok.ensures.accepted
-    ∙ alike_first c.args.cache.now.show c.args.cache.now.held honest name c.deref.result.now _ _ known.runnable ((rw judged at c.in_ok-others-in-Ok.ensures.alike) honest)
-    ∙ sym (answer_of_first (limit_manner c.args.cache.now.show) (words_bytes c.args.given.now.words.now) c.args.given.now.indexes.now c.args.given.now.read.now name c.deref.result.now is c.in-Ok.ensures.accepted)
+    runnable_of_first (manner_of c.args.cache.now) (words_bytes c.args.given.now.words.now) c.args.given.now.indexes.now c.args.given.now.read.now name c.deref.result.now is c.in-Ok.ensures.accepted
+    known.runnable c.in_ok-others-in-Ok.ensures.known

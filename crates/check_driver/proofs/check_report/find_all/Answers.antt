@@ -6,7 +6,7 @@ use Rattle.asm_image.specs.Rows.{methods_of}
 use Rattle.pe_reader.specs.Addresses.{metadata}
 use Rattle.unit_builder.specs.Outcomes.{entries_of, entry_of, outcome_of}
 use Rattle.unit_verdicts.specs.Asked.{Asks}
-use Rattle.unit_verdicts.specs.Picks.{pick_of}
+use Rattle.unit_verdicts.specs.Picks.{pick_from}
 use Rattle.unit_verdicts.specs.VerdictCache.{CachedUnits, manner_of}
 use Rattle.unit_verdicts.proofs.Asking.{asks_all, asks_front, front_all}
 use Rattle.check_driver.specs.Asked.{asked_for, judged_keys, with_judged}
@@ -38,8 +38,8 @@ loop-index-preserved g c =
       same = c.find.ensures.same ∙ same;
       end = c.loop-index.invariant.end;
       value =
-          rw c.in_ok-push.ensures.items (found_next asm (pick_of cache.held) (methods_of asm) n method.0 c.loop-index.found.items c.in_ok-find.field-0 method.2 c.loop-index.invariant.value
-          ((rw same at c.in_ok-find.ensures.value) method.0 at ∙ ap (λ (units : CachedUnits). outcome_finding (pick_of units.held) (outcome_of asm method.0)) so_far));
+          rw c.in_ok-push.ensures.items (found_next asm (pick_from cache.held) (methods_of asm) n method.0 c.loop-index.found.items c.in_ok-find.field-0 method.2 c.loop-index.invariant.value
+          ((rw same at c.in_ok-find.ensures.value) method.0 at ∙ ap (λ (units : CachedUnits). outcome_finding (pick_from units.held) (outcome_of asm method.0)) so_far));
       shown =
           rw c.in_ok-push.ensures.items (shown_next asm (manner_of cache) (methods_of asm) n method.0 c.loop-index.found.items c.in_ok-find.field-0 method.2 c.loop-index.invariant.shown
           ((rw same at c.in_ok-find.ensures.shown) method.0 at ∙ ap (λ (units : CachedUnits). outcome_shown (manner_of units) (outcome_of asm method.0)) so_far));
@@ -54,7 +54,7 @@ unfolding entries_of
 returns-clause-value g c =
     let asm = c.args.assembly.now in
     let long : length (methods_of asm) ≤ c.loop-index.index = rw (← c.methods-index-end.ensures.methods) c.loop-index-test.false in
-    c.loop-index.invariant.value ∙ ap (λ methods. findings (pick_of c.args.cache.now.held) (map (entry_of asm) methods)) (all_taken (methods_of asm) c.loop-index.index long)
+    c.loop-index.invariant.value ∙ ap (λ methods. findings (pick_from c.args.cache.now.held) (map (entry_of asm) methods)) (all_taken (methods_of asm) c.loop-index.index long)
 
 pub returns-clause-shown : goal.returns-clause-shown
 unfolding entries_of
@@ -68,7 +68,7 @@ returns-clause-few g c =
     let asm = c.args.assembly.now in
     let few = methods_are_few asm c.methods-index-end.ensures.accepted in
     let value = returns-clause-value g c in
-    omega (arith, few, found_few asm (pick_of c.args.cache.now.held) c.loop-index.found.items value, rows_count (metadata asm))
+    omega (arith, few, found_few asm (pick_from c.args.cache.now.held) c.loop-index.found.items value, rows_count (metadata asm))
 
 pub returns-clause-runnable : goal.returns-clause-runnable
 unfolding entries_of

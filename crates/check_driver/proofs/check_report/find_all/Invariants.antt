@@ -2,7 +2,7 @@ use Rattle.std.proofs.Common.{◌≡◌, ◌++◌, map, take, length}
 use Rattle.std.specs.Prelude.{All}
 use Rattle.asm_image.specs.Rows.{methods_of}
 use Rattle.unit_builder.specs.Outcomes.{entry_of}
-use Rattle.unit_verdicts.specs.Picks.{pick_of}
+use Rattle.unit_verdicts.specs.Picks.{pick_from}
 use Rattle.unit_verdicts.specs.VerdictCache.{manner_of}
 use Rattle.check_driver.specs.Asked.{asked_for, with_judged}
 use Rattle.check_driver.specs.CheckText.{all_shown, findings}
@@ -18,7 +18,7 @@ invariant-loop-index g l =
     record {
       same : l.units ≡ l.assembly;
       end : l.index-end ≡ length (methods_of l.assembly);
-      value : map finding_in l.found.items ≡ findings (pick_of cache.held) (map (entry_of l.assembly) first);
+      value : map finding_in l.found.items ≡ findings (pick_from cache.held) (map (entry_of l.assembly) first);
       shown : map shown_in l.found.items ≡ all_shown (manner_of cache) (map (entry_of l.assembly) first);
       within : All IsWithin l.found.items;
       known : AreKnown l.assembly first;

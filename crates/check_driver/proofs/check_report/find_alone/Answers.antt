@@ -1,8 +1,8 @@
 use Rattle.std.proofs.Common.{List, map, ◌≡◌, subst}
 use Rattle.std.specs.Prelude.{IfOk}
 use Rattle.unit_builder.specs.Outcomes.{entries_of}
-use Rattle.result_cache.specs.Entries.{Entry}
-use Rattle.unit_verdicts.specs.Picks.{pick_of}
+use Rattle.unit_verdicts.specs.declared.source.Source.{Source}
+use Rattle.unit_verdicts.specs.Picks.{pick_from}
 use Rattle.unit_verdicts.specs.VerdictCache.{CachedUnits, manner_of}
 use Rattle.check_driver.specs.Asked.{judged_keys, units_asked}
 use Rattle.check_driver.specs.CheckText.{all_shown, findings}
@@ -12,7 +12,7 @@ use Rattle.check_driver.proofs.check_report.find_alone.Goals as goal
 
 pub returns-clause-value : goal.returns-clause-value
 returns-clause-value g c =
-    subst (λ (held : List Entry). IfOk c.find_all.result (λ found. map finding_in found.items ≡ findings (pick_of held) (entries_of c.args.assembly.now)))
+    subst (λ (held : Source). IfOk c.find_all.result (λ found. map finding_in found.items ≡ findings (pick_from held) (entries_of c.args.assembly.now)))
     c.none-cache.ensures.held c.find_all.ensures.value
 
 pub returns-clause-shown : goal.returns-clause-shown

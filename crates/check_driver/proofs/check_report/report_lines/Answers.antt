@@ -1,6 +1,6 @@
 use Rattle.std.proofs.Common.{Bool, ℕ, ap, if◌then◌else◌, ◌∙◌}
 use Rattle.std.specs.List.{list_all}
-use Rattle.unit_verdicts.specs.Picks.{pick_of}
+use Rattle.unit_verdicts.specs.Picks.{pick_from}
 use Rattle.check_driver.specs.CheckText.{is_proved}
 use Rattle.check_driver.specs.Findings.{finding_in}
 use Rattle.check_driver.proofs.ReportLines.{found_are_proved}
@@ -10,4 +10,4 @@ pub returns-clause-status : goal.returns-clause-status
 returns-clause-status g c =
     let status : Bool → ℕ = λ proved. if proved then 0 else 1 in
     c.status_of.ensures ∙ ap (λ found. status (list_all (λ one. is_proved (finding_in one)) found)) c.deref-2.ensures.value
-    ∙ ap status (found_are_proved c.args.assembly.now (pick_of c.args.cache.now.held) c.in_ok-found.found.items c.in_ok-found.ensures.value)
+    ∙ ap status (found_are_proved c.args.assembly.now (pick_from c.args.cache.now.held) c.in_ok-found.found.items c.in_ok-found.ensures.value)

@@ -1,15 +1,16 @@
-use Rattle.std.proofs.Common.{◌≡◌, ℕ, ◌<◌, List, Vec, Global, length, sym, ap, subst, refl, ◌∙◌}
+use Rattle.std.proofs.Common.{◌≡◌, ℕ, ◌<◌, List, Vec, Global, length, sym, ap, subst, refl, ◌∙◌, arith}
 use Rattle.std.specs.Prelude.{All}
 use Rattle.std.proofs.lemmas.Result.{err_from_is_err_and}
 use Rattle.answer_lines.specs.Answers.{missing_line, unread_line}
 use Rattle.answer_lines.proofs.Writings.{gives_error}
 use Rattle.command_words.specs.Words.{file_indexes, word_at, words_bytes}
-use Rattle.command_words.proofs.UsedIndexes.{cache_used, files_used}
+use Rattle.command_words.proofs.UsedIndexes.{cache_used, files_used, proof_used}
 use Rattle.check_driver.proofs.CommandEnds.{missing_call, no_memory_call, read_call, unread_call}
+use Rattle.check_driver.specs.BytesAnswered.{AnswersBytes}
 use Rattle.check_driver.specs.CacheMet.{IsMet}
 use Rattle.check_driver.proofs.FilesRead.{contents_long}
 use Rattle.check_driver.proofs.InputsRead.{file_below, no_cache_read, read_below}
-use Rattle.check_driver.proofs.Statuses.{never_missing}
+use Rattle.check_driver.proofs.Statuses.{never_missing, status_below}
 use Rattle.check_driver.proofs.Reportable.{held_checked, none_begun}
 use Rattle.check_driver.proofs.SpelledUnits.{held_spelled}
 use Rattle.check_driver.proofs.program.answer_command.Goals as goal
@@ -42,6 +43,7 @@ answer_bytes-requires-clause-called g c =
       used = c.requires.inside;
       files = files_used (length c.args.words.now) c.args.command c.requires.inside;
       cache = cache_used (length c.args.words.now) c.args.command c.requires.inside;
+      proof = proof_used (length c.args.words.now) c.args.command c.requires.inside;
       indexes = c.deref-in-Ok.ensures.value ∙ c.in_ok-indexes.ensures;
       each =
           ap (λ (read : List (Vec ℕ Global)). length read) c.deref-in-Ok-2.ensures.value
@@ -57,19 +59,24 @@ returns-in-Ok-clause-answer g c =
     let words = words_bytes c.args.words.now in
     let met = c.in-Ok.ensures.read in
     let files = c.deref-in-Ok-2.ensures.value in
-    read_call told words c.args.command (g.F.Files.held c.read_inputs.new.files) _ _ _ _ met.0 c.in-Ok.inputs.files.items c.in-Ok.inputs.cache c.answer_bytes.result _ _ _ _ c.read_inputs.ensures.files
-    c.read_inputs.ensures.faults_kept met.1 met.2.0 met.2.1 (rw files at c.answer_bytes.ensures.answer) (rw files at c.answer_bytes.ensures.asked) (rw files at c.answer_bytes.ensures.left)
-    (rw files at c.answer_bytes.ensures.alike) c.answer_bytes.ensures.honest
+    let answer = rw files at c.answer_bytes.ensures.answer in
+    read_call told words c.args.command (g.F.Files.held c.read_inputs.new.files) _ _ _ _ met.0 c.in-Ok.inputs.files.items c.in-Ok.inputs.cache answer.0 c.answer_bytes.result _ _ _ _
+    c.read_inputs.ensures.files c.read_inputs.ensures.faults_kept met.1 met.2.0 met.2.1 answer.1 answer.2 (rw files at c.answer_bytes.ensures.asked)
+    (rw files at c.answer_bytes.ensures.known) c.answer_bytes.ensures.honest
 
 pub returns-in-Ok-clause-missing : goal.returns-in-Ok-clause-missing
-returns-in-Ok-clause-missing g c = never_missing c.args.command (words_bytes c.args.words.now) _ _ c.answer_bytes.result _ _ _ _ c.answer_bytes.ensures.answer
+returns-in-Ok-clause-missing g c =
+    let answer = c.answer_bytes.ensures.answer in
+    never_missing c.args.command (words_bytes c.args.words.now) _ answer.0 _ c.answer_bytes.result _ _ _ _ (AnswersBytes.gives answer.2)
+
+pub returns-in-Ok-clause-memory : goal.returns-in-Ok-clause-memory
+returns-in-Ok-clause-memory g c = AnswersBytes.memory c.answer_bytes.ensures.answer.2
 
 pub returns-in-Ok-clause-begun : goal.returns-in-Ok-clause-begun
 returns-in-Ok-clause-begun g c =
     let met = c.in-Ok.ensures.read in
-    let indexes : c.deref-in-Ok.result.now ≡ file_indexes c.args.command = c.deref-in-Ok.ensures.value ∙ c.in_ok-indexes.ensures in
-    held_checked (g.F.Files.held c.args.files.now) c.args.command (words_bytes c.args.words.now) met.0.files c.in-Ok.inputs.files.items _ _ _ (IsMet.files met.1) met.2.0
-    (rw (c.deref-in-Ok-2.ensures.value, indexes) at c.answer_bytes.ensures.begun)
+    held_checked (g.F.Files.held c.args.files.now) c.args.command (words_bytes c.args.words.now) met.0.files c.in-Ok.inputs.files.items _ _ (IsMet.files met.1) met.2.0
+    (rw c.deref-in-Ok-2.ensures.value at c.answer_bytes.ensures.begun)
 
 pub returns-in-Ok-clause-spelled : goal.returns-in-Ok-clause-spelled
 returns-in-Ok-clause-spelled g c =
@@ -89,6 +96,9 @@ returns-in-Err-Missing-clause-answer g c =
     c.read_inputs.ensures.files met.1 met.2.2
     (gives_error 3 (missing_line name) c.answer_missing.result (g.O.Sink.written c.args.out.now) (g.O.Sink.puts c.args.out.now) (g.O.Sink.faults c.args.out.now) _ c.answer_missing.ensures.status written)
 
+pub returns-in-Err-Missing-clause-memory : goal.returns-in-Err-Missing-clause-memory
+returns-in-Err-Missing-clause-memory g c = status_below 3 7 c.answer_missing.result (omega arith) c.answer_missing.ensures.status
+
 pub returns-in-Err-Missing-clause-begun : goal.returns-in-Err-Missing-clause-begun
 returns-in-Err-Missing-clause-begun g c = none_begun (g.F.Files.held c.args.files.now) c.args.command (words_bytes c.args.words.now) (g.O.Sink.written c.args.out.now)
 
@@ -101,6 +111,9 @@ returns-in-Err-Failed-clause-answer g c =
     unread_call (g.F.Files.held c.args.files.now) words c.args.command (g.F.Files.held c.read_inputs.new.files) _ met.0 c.in-Err-Failed.file c.answer_unread.result _ _ _
     c.read_inputs.ensures.files met.1 met.2.0 met.2.1 c.answer_unread.ensures.status
     (gives_error 4 (unread_line name) c.answer_unread.result (g.O.Sink.written c.args.out.now) (g.O.Sink.puts c.args.out.now) (g.O.Sink.faults c.args.out.now) _ c.answer_unread.ensures.status written)
+
+pub returns-in-Err-Failed-clause-memory : goal.returns-in-Err-Failed-clause-memory
+returns-in-Err-Failed-clause-memory g c = status_below 4 7 c.answer_unread.result (omega arith) c.answer_unread.ensures.status
 
 pub returns-in-Err-Failed-clause-begun : goal.returns-in-Err-Failed-clause-begun
 returns-in-Err-Failed-clause-begun g c = none_begun (g.F.Files.held c.args.files.now) c.args.command (words_bytes c.args.words.now) (g.O.Sink.written c.args.out.now)

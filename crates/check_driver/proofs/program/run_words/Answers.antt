@@ -1,17 +1,19 @@
 use Rattle.std.proofs.Common.{◌≢◌, sym, ◌∙◌}
-use Rattle.command_words.specs.Words.{cache_name, read_names, words_bytes}
+use Rattle.command_words.specs.Words.{cache_name, proof_name, read_names, words_bytes}
 use Rattle.answer_lines.specs.Outcome.{status_of}
 use Rattle.answer_lines.specs.Writing.{change_of}
-use Rattle.answer_lines.proofs.Causes.{unread_cause, unwritten_cause}
-use Rattle.answer_lines.proofs.Leaving.{front_given, leaves}
+use Rattle.answer_lines.proofs.Leaving.{front_given}
 use Rattle.check_driver.specs.Asked.{asked_by}
-use Rattle.check_driver.specs.CacheLeft.{left_by}
 use Rattle.check_driver.specs.CacheMet.{IsMet}
 use Rattle.check_driver.specs.Expected.{expected}
+use Rattle.check_driver.specs.FilesLeft.{left_by}
 use Rattle.check_driver.proofs.Asking.{leaves_asked}
+use Rattle.check_driver.proofs.CallLeft.{leaves_plainly, unread_cause, unwritten_cause}
 use Rattle.check_driver.proofs.CallEnds.{cache_alike, kept_honest, leaves_files, same_without}
 use Rattle.check_driver.proofs.CheckedSafety.{section_safe}
+use Rattle.check_driver.proofs.ConfirmedReports.{confirms_reports}
 use Rattle.check_driver.proofs.HeadlineSafety.{headline_keeps, headline_safe}
+use Rattle.check_driver.proofs.OwnNames.{own_names}
 use Rattle.check_driver.proofs.ProvedUnits.{proved_unit_is_safe}
 use Rattle.check_driver.proofs.RefutedMethods.{refuted_is_unsafe}
 use Rattle.check_driver.proofs.Statuses.{usage_only, plain_expected}
@@ -25,13 +27,16 @@ returns-clause-output g c =
       met,
       answer.1,
       rw c.finish.ensures.status
-          (leaves (expected words met) (read_names words) _ _ c.answer_words-answered.result _ _ _ _ _ _ _ _ _ _ (plain_expected words met) answer.2 c.finish.ensures.front c.finish.ensures.puts),
+          (leaves_plainly (expected words met) (read_names words) _ _ c.answer_words-answered.result _ _ _ _ _ _ _ _ _ _ (plain_expected words met c.answer_words-answered.result c.answer_words-answered.ensures.memory) answer.2 c.finish.ensures.front c.finish.ensures.puts),
       rw c.finish.ensures.status (leaves_asked (asked_by words met) c.answer_words-answered.result _ _ answer.3),
       rw c.finish.ensures.status (leaves_files (left_by words met) (expected words met).out c.answer_words-answered.result _ _ _ answer.4),
     )
 
 pub returns-clause-files : goal.returns-clause-files
-returns-clause-files g c = λ none. same_without (cache_name (words_bytes c.args.words.now)) _ _ _ c.answer_words-answered.ensures.answer.6 none
+returns-clause-files g c = λ no_cache no_proof.
+    let words = words_bytes c.args.words.now in
+    let answer = c.answer_words-answered.ensures.answer in
+    same_without words answer.0 (expected words answer.0).out c.answer_words-answered.result _ _ _ answer.4 no_cache no_proof
 
 pub returns-clause-cache : goal.returns-clause-cache
 returns-clause-cache g c = λ held other told asks honest read written memory.
@@ -40,7 +45,7 @@ returns-clause-cache g c = λ held other told asks honest read written memory.
     let met = answer.0 in
     let status = c.finish.ensures.status in
     let ends =
-    leaves (expected words met) (read_names words) _ _ c.answer_words-answered.result _ _ _ _ _ _ _ _ _ (g.E.Sink.faults c.finish.new.err) (plain_expected words met) answer.2
+    leaves_plainly (expected words met) (read_names words) _ _ c.answer_words-answered.result _ _ _ _ _ _ _ _ _ (g.E.Sink.faults c.finish.new.err) (plain_expected words met c.answer_words-answered.result c.answer_words-answered.ensures.memory) answer.2
     c.finish.ensures.front c.finish.ensures.puts in
     let not_read : status_of c.answer_words-answered.result ≢ 4 = λ e. read (status ∙ e) in
     let not_written : status_of c.answer_words-answered.result ≢ 6 = λ e. written (status ∙ e) in
@@ -53,7 +58,16 @@ pub returns-clause-kept_honest : goal.returns-clause-kept_honest
 returns-clause-kept_honest g c = λ held after told now honest.
     let words = words_bytes c.args.words.now in
     let answer = c.answer_words-answered.ensures.answer in
-    kept_honest (cache_name words) answer.0.cache _ _ held after told now (IsMet.cache answer.1) answer.6 honest
+    kept_honest (cache_name words) (proof_name words) answer.0.cache _ _ held after (own_names words) told now (IsMet.cache answer.1) answer.6 honest
+
+pub returns-clause-confirmed : goal.returns-clause-confirmed
+returns-clause-confirmed g c = λ held after other met told now asks is few memory.
+    let words = words_bytes c.args.words.now in
+    let answer = c.answer_words-answered.ensures.answer in
+    let status = c.finish.ensures.status in
+    rw status
+    (confirms_reports words other (g.F.Files.held c.args.files.now) _ held after answer.0 met c.answer_words-answered.result (read_names words) _ _ _ _ told now asks answer.1 answer.2 answer.4 answer.5 is
+    (rw status at few) memory)
 
 pub returns-clause-headline : goal.returns-clause-headline
 returns-clause-headline g c = λ held k bytes text method told assembly appended has all.
@@ -91,13 +105,13 @@ pub returns-clause-unread_cause : goal.returns-clause-unread_cause
 returns-clause-unread_cause g c = λ is.
     let words = words_bytes c.args.words.now in
     let answer = c.answer_words-answered.ensures.answer in
-    unread_cause (expected words answer.0) (read_names words) _ _ c.answer_words-answered.result _ _ (plain_expected words answer.0) answer.2 (sym c.finish.ensures.status ∙ is)
+    unread_cause (expected words answer.0) (read_names words) _ _ c.answer_words-answered.result _ _ (plain_expected words answer.0 c.answer_words-answered.result c.answer_words-answered.ensures.memory) answer.2 (sym c.finish.ensures.status ∙ is)
 
 pub returns-clause-unwritten_cause : goal.returns-clause-unwritten_cause
 returns-clause-unwritten_cause g c = λ is.
     let words = words_bytes c.args.words.now in
     let answer = c.answer_words-answered.ensures.answer in
-    unwritten_cause (expected words answer.0) (read_names words) _ _ c.answer_words-answered.result _ _ _ (plain_expected words answer.0) answer.2 c.finish.ensures.kept
+    unwritten_cause (expected words answer.0) (read_names words) _ _ c.answer_words-answered.result _ _ _ (plain_expected words answer.0 c.answer_words-answered.result c.answer_words-answered.ensures.memory) answer.2 c.finish.ensures.kept
     (sym c.finish.ensures.status ∙ is)
 
 pub returns-clause-usage : goal.returns-clause-usage

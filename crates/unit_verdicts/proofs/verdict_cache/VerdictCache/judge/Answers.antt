@@ -5,6 +5,7 @@ use Rattle.result_cache.specs.Entries.{is_among}
 use Rattle.unit_verdicts.specs.VerdictCache.{manner_of}
 use Rattle.unit_verdicts.proofs.Asking.{asks_none, asks_nothing}
 use Rattle.unit_verdicts.proofs.FoundOf.{found_again, found_copied}
+use Rattle.unit_verdicts.proofs.Unseen.{asked_none}
 use Rattle.unit_verdicts.proofs.verdict_cache.VerdictCache.judge.Goals as goal
 
 pub returns-in_err-key-clause-asked : goal.returns-in_err-key-clause-asked
@@ -26,4 +27,4 @@ returns-in-Some-clause-value g c =
 pub returns-in-Some-clause-asked : goal.returns-in-Some-clause-asked
 returns-in-Some-clause-asked g c =
     let known : is_among c.args.self.now.keys (unit_bytes c.args.unit) ≡ true = sym (rw (c.deref.ensures.value, c.in_ok-key.ensures, c.unit-2.ensures) at c.in-Some.ensures.there) in
-    rw known (asks_none _ _ _ refl)
+    rw (known, asked_none c.args.self.now.held) (asks_none _ _ _ refl)

@@ -1,0 +1,103 @@
+-- What is known of the files that were read is known of what is met.
+use Rattle.std.proofs.Common.{◌≡◌, ◌≢◌, ℕ, ◌≤◌, List, [], ◌∷◌, length, take, Vec, Global, Option, Some, None, Result, Ok, Err, refl, sym, ap, subst, ◌∙◌, arith, inl, inr}
+use Rattle.std.specs.Prelude.{IfOk, IfSome}
+use Rattle.std.proofs.lemmas.Bool.{cases_lt}
+use Rattle.std.proofs.lemmas.List.{take_all}
+use Rattle.std.proofs.lemmas.Option.{same_Some}
+use Rattle.asm_image.specs.Faults.{FirstBroken}
+use Rattle.asm_image.specs.declared.fault.AsmFault.{AsmFault}
+use Rattle.cc_base.specs.Files.{READ_LIMIT}
+use Rattle.answer_lines.specs.declared.interrupt.Interrupt.{Interrupt}
+use Rattle.assembly_answers.proofs.CutFiles.{large_first}
+use Rattle.command_words.specs.Words.{file_indexes, word_at, words_at}
+use Rattle.command_words.specs.declared.check_words.CheckWords.{CheckWords}
+use Rattle.command_words.specs.declared.command.Command.{Command}
+use Rattle.command_words.specs.declared.command.Command.TheVariants as commands
+use Rattle.result_cache.specs.Entries.{Entry}
+use Rattle.unit_verdicts.specs.Asked.{distinct}
+use Rattle.unit_verdicts.specs.ProofLeft.{IsProofLeft}
+use Rattle.unit_verdicts.specs.declared.source.Source.TheVariants.{Cache as OfCache}
+use Rattle.check_driver.specs.Asked.{check_keys}
+use Rattle.check_driver.specs.CacheMet.{CallMet, cache_entries}
+use Rattle.check_driver.specs.CallRead.{cache_bytes}
+use Rattle.check_driver.specs.Checked.{IfCheck}
+use Rattle.check_driver.specs.Known.{AnswerKnows, AreAllRunnable, FilesKnown, KnowsCheck, RunnableBefore, known_unless}
+use Rattle.check_driver.specs.Met.{AreContents, IsCacheContent, IsContent, bytes_read, contents, first_missing}
+use Rattle.check_driver.proofs.Answering.{keys_alike}
+use Rattle.check_driver.proofs.CacheCuts.{entries_alike}
+use Rattle.check_driver.proofs.FilesRead.{none_missing}
+
+-- ---- where nothing is known
+
+-- A file is missing.
+pub known_missing : (command : Command) (words : List (List ℕ)) (met : CallMet) (name : List ℕ) (r : Result ℕ Interrupt)
+    → first_missing (words_at words (file_indexes command)) met.files ≡ Some name → AnswerKnows command words met r
+known_missing command words met name (Ok status) first = λ read.
+    subst (λ (missing : Option (List ℕ)). known_unless missing (IfCheck command (λ check. KnowsCheck check met.cache (contents met.files) status))) (sym first) tt
+known_missing command words met name (Err i) first = tt
+
+-- A file was not read.
+pub known_unread : (command : Command) (words : List (List ℕ)) (met : CallMet) (r : Result ℕ Interrupt) → IfOk r (λ status. status ≡ 4) → AnswerKnows command words met r
+known_unread command words met (Ok status) is = λ read. absurd (read is)
+known_unread command words met (Err i) is = tt
+
+-- ---- files that were read
+
+-- An assembly that is accepted was not cut.
+whole_same : (whole bytes : List ℕ) (limit : ℕ) → limit ≡ READ_LIMIT → take limit whole ≡ bytes → FirstBroken whole ≡ None → bytes ≡ whole
+whole_same whole bytes limit is cut accepted =
+    elim (cases_lt (length whole) limit) [
+      | inl lt ↦ sym cut ∙ take_all limit whole (omega arith)
+      | inr ge ↦ absurd (let both = sym accepted ∙ large_first whole (omega (arith, is, ge)) in cc)
+    ]
+
+read_same : (whole bytes : List ℕ) → IsContent (Some whole) bytes → FirstBroken whole ≡ None → bytes ≡ whole
+read_same whole bytes (inl is) accepted = sym (same_Some whole bytes is)
+read_same whole bytes (inr cut) accepted = whole_same whole bytes READ_LIMIT refl (same_Some (take READ_LIMIT whole) bytes cut) accepted
+
+-- The units of what is met can be run where those of what was read can.
+before_alike : (whole bytes : List ℕ) (fault : Option AsmFault) (Others Later : Type 0) → FirstBroken whole ≡ fault → IsContent (Some whole) bytes
+    → RunnableBefore bytes (FirstBroken bytes) Others → (Others → Later) → RunnableBefore whole fault Later
+before_alike whole bytes (Some fault) Others Later first content known later = tt
+before_alike whole bytes None Others Later first content known later =
+    let same = read_same whole bytes content first in
+    let its = subst (λ (b : List ℕ). RunnableBefore b (FirstBroken b) Others) same known in
+    let both = subst (λ (found : Option AsmFault). RunnableBefore whole found Others) first its in
+    (both.0, later both.1)
+
+runnable_alike : (met : List (Option (List ℕ))) (read : List (Vec ℕ Global)) → AreContents met read → AreAllRunnable (bytes_read read) → AreAllRunnable (contents met)
+runnable_alike [] [] h known = tt
+runnable_alike (Some whole ∷ met) (bytes ∷ read) (content, others) known =
+    before_alike whole bytes.items (FirstBroken whole) (AreAllRunnable (bytes_read read)) (AreAllRunnable (contents met)) refl content known
+    (λ (its : AreAllRunnable (bytes_read read)). runnable_alike met read others its)
+runnable_alike (None ∷ met) (bytes ∷ read) (inl is, others) known = absurd cc
+runnable_alike (None ∷ met) (bytes ∷ read) (inr is, others) known = absurd cc
+runnable_alike [] (bytes ∷ read) h known = absurd h
+runnable_alike (under ∷ met) [] h known = absurd h
+
+knows_alike : (check : CheckWords) (met : CallMet) (read : List (Vec ℕ Global)) (own : Option (Vec ℕ Global)) (status : ℕ) → AreContents met.files read → IsCacheContent met.cache own
+    → KnowsCheck check (cache_bytes own) (bytes_read read) status → KnowsCheck check met.cache (contents met.files) status
+knows_alike check met read own status h is known = record {
+  runnable = runnable_alike met.files read h known.runnable;
+  left = λ few.
+      subst (λ (entries : List Entry). IfSome check.proof (λ _. IsProofLeft (OfCache entries) (distinct (check_keys (contents met.files))))) (sym (entries_alike met.cache own is))
+      (subst (λ (keys : List (List ℕ)). IfSome check.proof (λ _. IsProofLeft (OfCache (cache_entries (cache_bytes own))) (distinct keys))) (sym (keys_alike met.files read h)) (known.left few));
+}
+
+command_alike : (command : Command) (met : CallMet) (read : List (Vec ℕ Global)) (own : Option (Vec ℕ Global)) (status : ℕ) → AreContents met.files read → IsCacheContent met.cache own
+    → IfCheck command (λ check. KnowsCheck check (cache_bytes own) (bytes_read read) status) → IfCheck command (λ check. KnowsCheck check met.cache (contents met.files) status)
+command_alike (commands.Check check) met read own status h is known = knows_alike check met read own status h is known
+command_alike (commands.Verify file proof) met read own status h is known = tt
+command_alike (commands.Unit file) met read own status h is known = tt
+command_alike (commands.List file) met read own status h is known = tt
+command_alike (commands.Il file method) met read own status h is known = tt
+command_alike (commands.Run run) met read own status h is known = tt
+command_alike (commands.Refute file method runs) met read own status h is known = tt
+command_alike (commands.Gen seed count) met read own status h is known = tt
+
+pub known_read : (command : Command) (words : List (List ℕ)) (met : CallMet) (read : List (Vec ℕ Global)) (own : Option (Vec ℕ Global)) (r : Result ℕ Interrupt) → AreContents met.files read
+    → IsCacheContent met.cache own → IfOk r (λ status. IfCheck command (λ check. KnowsCheck check (cache_bytes own) (bytes_read read) status)) → AnswerKnows command words met r
+known_read command words met read own (Ok status) h is known = λ other.
+    subst (λ (missing : Option (List ℕ)). known_unless missing (IfCheck command (λ check. KnowsCheck check met.cache (contents met.files) status)))
+    (sym (none_missing (words_at words (file_indexes command)) met.files read h)) (command_alike command met read own status h is known)
+known_read command words met read own (Err i) h is known = tt
