@@ -20,7 +20,7 @@ use Rattle.unit_verdicts.specs.VerdictCache.{manner_under}
 use Rattle.unit_verdicts.specs.declared.source.Source.TheVariants.{Cache as OfCache}
 use Rattle.unit_verdicts.proofs.Honest.{honest_text, honest_verdicts}
 use Rattle.check_driver.specs.Asked.{check_keys, judged_keys, keys_before, outcome_key}
-use Rattle.check_driver.specs.CheckText.{Finding, WithVerdicts, all_methods_proved, assembly_line, check_text, entry_lines, finding_lines, findings, found_counts, is_proved, outcome_finding, outcome_shown, report_text, summary_text}
+use Rattle.check_driver.specs.CheckText.{Finding, WithVerdicts, all_counts, all_methods_proved, assembly_line, check_text, entry_lines, finding_lines, findings, found_counts, is_proved, outcome_finding, outcome_shown, report_text}
 use Rattle.check_driver.specs.Checked.{AreRunnable}
 use Rattle.check_driver.specs.Expected.{check_answer, checked_before}
 use Rattle.check_driver.specs.Known.{AreAllRunnable, RunnableBefore}
@@ -35,11 +35,11 @@ pub record AgreeOn (a b : Manner) (keys : List (List ℕ)) : Type 0 where
 abbrev pub AreAmong : List (List ℕ) → List (List ℕ) → Type 0
 AreAmong all keys = AllByRecursion (Contains all) keys
 
-first_among : (all xs ys : List (List ℕ)) → AreAmong all (xs ++ ys) → AreAmong all xs
+pub first_among : (all xs ys : List (List ℕ)) → AreAmong all (xs ++ ys) → AreAmong all xs
 first_among all [] ys among = tt
 first_among all (x ∷ xs) ys among = (among.0, first_among all xs ys among.1)
 
-last_among : (all xs ys : List (List ℕ)) → AreAmong all (xs ++ ys) → AreAmong all ys
+pub last_among : (all xs ys : List (List ℕ)) → AreAmong all (xs ++ ys) → AreAmong all ys
 last_among all [] ys among = among
 last_among all (x ∷ xs) ys among = last_among all xs ys among.1
 
@@ -72,15 +72,21 @@ module _ (a b : Manner) (all : List (List ℕ)) (agree : AgreeOn a b all) where
       ap (λ (found : Finding). found ∷ findings a.pick methods) (same_finding entry.outcome runnable.0 own)
       ∙ ap (λ (found : List Finding). outcome_finding b.pick entry.outcome ∷ found) (same_findings methods runnable.1 later)
 
-  pub same_text : (name bytes : List ℕ) → AreRunnable bytes → AreAmong all (judged_keys (entries_of bytes)) → check_text name a bytes ≡ check_text name b bytes
+  pub same_report : (name : List ℕ) (entries : List MethodEntry) → Runnable entries → AreAmong all (judged_keys entries) → report_text name a entries ≡ report_text name b entries
   unfolding report_text
-  same_text name bytes runnable among =
-      ap (λ (lines : List ℕ). assembly_line name ++ lines ++ summary_text a.pick bytes) (same_lines (entries_of bytes) runnable among)
-      ∙ ap (λ (found : List Finding). assembly_line name ++ flat_map (entry_lines b) (entries_of bytes) ++ summary_line (found_counts found))
-      (same_findings (entries_of bytes) runnable among)
+  same_report name entries runnable among =
+      ap (λ (lines : List ℕ). assembly_line name ++ lines ++ summary_line (all_counts a.pick entries)) (same_lines entries runnable among)
+      ∙ ap (λ (found : List Finding). assembly_line name ++ flat_map (entry_lines b) entries ++ summary_line (found_counts found)) (same_findings entries runnable among)
+
+  pub same_entries_proved : (entries : List MethodEntry) → Runnable entries → AreAmong all (judged_keys entries)
+      → list_all is_proved (findings a.pick entries) ≡ list_all is_proved (findings b.pick entries)
+  same_entries_proved entries runnable among = ap (list_all is_proved) (same_findings entries runnable among)
+
+  pub same_text : (name bytes : List ℕ) → AreRunnable bytes → AreAmong all (judged_keys (entries_of bytes)) → check_text name a bytes ≡ check_text name b bytes
+  same_text name bytes runnable among = same_report name (entries_of bytes) runnable among
 
   pub same_proved : (bytes : List ℕ) → AreRunnable bytes → AreAmong all (judged_keys (entries_of bytes)) → all_methods_proved a.pick bytes ≡ all_methods_proved b.pick bytes
-  same_proved bytes runnable among = ap (list_all is_proved) (same_findings (entries_of bytes) runnable among)
+  same_proved bytes runnable among = same_entries_proved (entries_of bytes) runnable among
 
   -- The answer for the first assembly, and for those after it.
   alike_first : (name bytes : List ℕ) (others other : Answer) → AreRunnable bytes → AreAmong all (judged_keys (entries_of bytes)) → others ≡ other

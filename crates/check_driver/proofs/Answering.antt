@@ -1,36 +1,41 @@
 -- Answers, by what is met under the names of files and by the words.
-use Rattle.std.proofs.Common.{◌≡◌, ℕ, zero, suc, ◌≤◌, ◌&&◌, List, [], ◌∷◌, ◌++◌, length, take, Any, Vec, Global, Option, Some, None, Result, refl, sym, ap, subst, ◌∙◌, arith, inl, inr, length-take, slice_index_or, Bool, is_none, is_some, option_map, unwrap_or}
+use Rattle.std.proofs.Common.{◌≡◌, ℕ, zero, suc, ◌≤◌, ◌&&◌, List, [], ◌∷◌, ◌++◌, length, take, Any, Vec, Global, Option, Some, None, Result, refl, sym, ap, subst, ◌∙◌, arith, inl, inr, length-take, slice_index_or, Bool, is_none, is_some, option_map, unwrap_or, zip, if◌then◌else◌}
 use Rattle.std.specs.Prelude.{codes, option_to_list}
+use Rattle.std.specs.List.{flat_map}
 use Rattle.std.proofs.lemmas.Bool.{le-leb}
 use Rattle.std.proofs.lemmas.List.{get_or-map, length-map}
 use Rattle.asm_image.specs.Faults.{FirstBroken}
 use Rattle.cc_base.specs.Files.{READ_LIMIT}
 use Rattle.cil_model.specs.Limits.{MAX_FILE_BYTES}
-use Rattle.answer_lines.specs.Answers.{Answer, USAGE, error_answer, refused_answer, missing_line}
+use Rattle.answer_lines.specs.Answers.{Answer, USAGE, error_answer, output_answer, refused_answer, missing_line}
 use Rattle.answer_lines.specs.Outcome.{Gives, GivesOrFails, after_line, unread_answer}
 use Rattle.answer_lines.specs.Writing.{Change}
 use Rattle.answer_lines.specs.declared.interrupt.Interrupt.{Interrupt}
 use Rattle.assembly_answers.proofs.CutFiles.{il_cut, il_file_answer, large_first, list_cut, list_file_answer, refute_bytes_answer, refute_cut, run_bytes_answer, run_cut}
-use Rattle.command_words.specs.Words.{args_told, cache_name, check_files, command_of, file_names, file_indexes, proof_name, word_at, words_at}
+use Rattle.command_words.specs.Words.{args_told, cache_name, check_files, command_of, file_names, file_indexes, linked_files, proof_name, word_at, words_at}
 use Rattle.command_words.specs.declared.check_words.CheckWords.{CheckWords}
 use Rattle.command_words.specs.declared.command.Command.{Command}
 use Rattle.command_words.specs.declared.command.Command.TheVariants as commands
+use Rattle.command_words.specs.declared.linked_words.LinkedWords.{LinkedWords}
 use Rattle.proof_files.specs.Reading.{ProofRead}
 use Rattle.result_cache.specs.Entries.{Entry}
 use Rattle.unit_verdicts.specs.Asked.{distinct, without_entry}
 use Rattle.unit_verdicts.specs.Picks.{Manner}
 use Rattle.unit_verdicts.specs.VerdictCache.{manner_under}
 use Rattle.unit_verdicts.specs.declared.source.Source.TheVariants.{Cache as OfCache}
-use Rattle.check_driver.specs.Asked.{asked_by, asked_unless, bytes_asked, check_asked, check_keys, files_asked, keys_before, unit_file_asked}
+use Rattle.check_driver.specs.Asked.{asked_by, asked_unless, bytes_asked, check_asked, check_keys, files_asked, judged_keys, keys_before, linked_asked, linked_keys, unit_file_asked}
 use Rattle.check_driver.specs.CacheMet.{CallMet, cache_entries, cache_refusal, command_cache, command_proof}
 use Rattle.check_driver.specs.CallRead.{IsReadIndex, cache_bytes}
 use Rattle.check_driver.specs.Expected.{missing_or, expected, unit_file_answer, check_answer, check_manner, checked_before, bytes_answer, files_answer, file_at, verify_answer}
 use Rattle.check_driver.specs.FilesLeft.{GivesOrUnreplaced, are_accepted, bytes_left, files_left, left_by, left_unless, left_where}
 use Rattle.check_driver.specs.Known.{WordsKnow}
+use Rattle.check_driver.specs.LinkedReports.{are_all_proved, file_reports, first_refused, linked_answer}
+use Rattle.unit_builder.specs.Linked.{linked_entries}
 use Rattle.check_driver.specs.Met.{AreContents, IsCacheContent, first_missing, contents, bytes_read}
 use Rattle.check_driver.proofs.CacheCuts.{entries_alike, refusal_alike}
 use Rattle.check_driver.proofs.Contents.{file_alike, first_alike}
 use Rattle.check_driver.proofs.FilesRead.{none_missing}
+use Rattle.check_driver.proofs.LinkedFiles.{contents_same, keys_unless_same, refused_alike, refused_or_same}
 
 -- ---- bytes that a read cut off
 
@@ -75,6 +80,31 @@ check_met_alike check words met read cache h is =
     ∙ ap (λ (entries : List Entry). after_line (cache_refusal name (cache_bytes cache)) (check_answer (manner_under show (OfCache entries)) names (contents met.files))) (entries_alike met.cache cache is)
     ∙ ap (after_line (cache_refusal name (cache_bytes cache))) (check_alike (check_manner check (cache_bytes cache)) names met.files read h)
 
+-- So have linked files, none of which is reported where one was cut off.
+linked_alike : (manner : Manner) (names : List (List ℕ)) (met : List (Option (List ℕ))) (read : List (Vec ℕ Global)) → AreContents met read
+    → linked_answer manner names (contents met) ≡ linked_answer manner names (bytes_read read)
+unfolding linked_answer
+linked_alike manner names met read h =
+    refused_or_same (λ files. let reported = zip names (linked_entries files) in output_answer (if are_all_proved manner.pick reported then 0 else 1) (file_reports manner reported)) names
+    (first_refused (contents met)) (first_refused (bytes_read read)) (contents met) (bytes_read read) (refused_alike met read h) (contents_same met read h)
+
+linked_met_alike : (linked : LinkedWords) (words : List (List ℕ)) (met : CallMet) (read : List (Vec ℕ Global)) (cache : Option (Vec ℕ Global)) → AreContents met.files read
+    → IsCacheContent met.cache cache
+    → bytes_answer (commands.Linked linked) words met.cache met.proof (contents met.files) ≡ bytes_answer (commands.Linked linked) words (cache_bytes cache) met.proof (bytes_read read)
+linked_met_alike linked words met read cache h is =
+    let name = command_cache words (commands.Linked linked) in
+    let names = words_at words (linked_files linked) in
+    let show = is_some linked.check.show in
+    ap (λ (line : List ℕ). after_line line (linked_answer (check_manner linked.check met.cache) names (contents met.files))) (refusal_alike name met.cache cache is)
+    ∙ ap (λ (entries : List Entry). after_line (cache_refusal name (cache_bytes cache)) (linked_answer (manner_under show (OfCache entries)) names (contents met.files))) (entries_alike met.cache cache is)
+    ∙ ap (after_line (cache_refusal name (cache_bytes cache))) (linked_alike (check_manner linked.check (cache_bytes cache)) names met.files read h)
+
+linked_keys_alike : (met : List (Option (List ℕ))) (read : List (Vec ℕ Global)) → AreContents met read → linked_keys (contents met) ≡ linked_keys (bytes_read read)
+unfolding linked_keys
+linked_keys_alike met read h =
+    keys_unless_same (λ files. flat_map judged_keys (linked_entries files)) (first_refused (contents met)) (first_refused (bytes_read read)) (contents met) (bytes_read read) (refused_alike met read h)
+    (contents_same met read h)
+
 -- An assembly that was cut off is refused before the proof file is read.
 verify_cut : (name by : List ℕ) (proof : Option ProofRead) (bytes : List ℕ) (limit : ℕ) → limit ≡ READ_LIMIT → READ_LIMIT ≤ length bytes
     → verify_answer name by proof bytes (FirstBroken bytes) ≡ verify_answer name by proof (take limit bytes) (FirstBroken (take limit bytes))
@@ -93,6 +123,7 @@ bytes_alike (commands.Il file method) words met read cache h is =
     first_alike (il_file_answer (word_at words file) (word_at words method)) met.files read
     (λ bytes past. il_cut (word_at words file) (word_at words method) bytes READ_LIMIT refl past) h
 bytes_alike (commands.Check check) words met read cache h is = check_met_alike check words met read cache h is
+bytes_alike (commands.Linked linked) words met read cache h is = linked_met_alike linked words met read cache h is
 bytes_alike (commands.Verify file proof) words met read cache h is =
     first_alike (λ (bytes : List ℕ). verify_answer (word_at words file) (word_at words proof) met.proof bytes (FirstBroken bytes)) met.files read
     (λ bytes past. verify_cut (word_at words file) (word_at words proof) met.proof bytes READ_LIMIT refl past) h
@@ -140,6 +171,9 @@ asked_alike (commands.Unit file) met read cache h is = first_alike unit_file_ask
 asked_alike (commands.Check check) met read cache h is =
     ap (λ (entries : List Entry). check_asked entries (contents met.files)) (entries_alike met.cache cache is)
     ∙ ap (λ (keys : List (List ℕ)). without_entry (cache_entries (cache_bytes cache)) (distinct keys)) (keys_alike met.files read h)
+asked_alike (commands.Linked linked) met read cache h is =
+    ap (λ (entries : List Entry). linked_asked entries (contents met.files)) (entries_alike met.cache cache is)
+    ∙ ap (λ (keys : List (List ℕ)). without_entry (cache_entries (cache_bytes cache)) (distinct keys)) (linked_keys_alike met.files read h)
 asked_alike (commands.Verify file proof) met read cache h is = refl
 asked_alike (commands.List file) met read cache h is = refl
 asked_alike (commands.Il file method) met read cache h is = refl
@@ -165,6 +199,13 @@ left_alike (commands.Check check) words met read cache h is =
     ap (λ (entries : List Entry). left_where (are_accepted (contents met.files)) proof name (OfCache entries) (distinct (check_keys (contents met.files)))) (entries_alike met.cache cache is)
     ∙ ap (λ (accepted : Bool). left_where accepted proof name (OfCache (cache_entries (cache_bytes cache))) (distinct (check_keys (contents met.files)))) (accepted_alike met.files read h)
     ∙ ap (λ (keys : List (List ℕ)). left_where (are_accepted (bytes_read read)) proof name (OfCache (cache_entries (cache_bytes cache))) (distinct keys)) (keys_alike met.files read h)
+left_alike (commands.Linked linked) words met read cache h is =
+    let command = commands.Linked linked in
+    let proof = command_proof words command in
+    let name = command_cache words command in
+    ap (λ (entries : List Entry). left_where (are_accepted (contents met.files)) proof name (OfCache entries) (distinct (linked_keys (contents met.files)))) (entries_alike met.cache cache is)
+    ∙ ap (λ (accepted : Bool). left_where accepted proof name (OfCache (cache_entries (cache_bytes cache))) (distinct (linked_keys (contents met.files)))) (accepted_alike met.files read h)
+    ∙ ap (λ (keys : List (List ℕ)). left_where (are_accepted (bytes_read read)) proof name (OfCache (cache_entries (cache_bytes cache))) (distinct keys)) (linked_keys_alike met.files read h)
 left_alike (commands.Verify file proof) words met read cache h is = refl
 left_alike (commands.Unit file) words met read cache h is = refl
 left_alike (commands.List file) words met read cache h is = refl

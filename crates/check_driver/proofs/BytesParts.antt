@@ -9,11 +9,12 @@ use Rattle.answer_lines.specs.declared.interrupt.Interrupt.{Interrupt}
 use Rattle.asm_image.specs.Faults.{FirstBroken}
 use Rattle.assembly_answers.specs.Answers.{il_answer, list_answer, refute_file_answer, run_file_answer}
 use Rattle.assembly_answers.proofs.Statuses.{IsOfBytes, of_il, of_list, of_refute_file, of_run_file}
-use Rattle.command_words.specs.Words.{args_told, check_files, word_at, words_at}
+use Rattle.command_words.specs.Words.{args_told, check_files, linked_files, word_at, words_at}
 use Rattle.command_words.specs.declared.check_words.CheckWords.{CheckWords}
 use Rattle.command_words.specs.declared.command.Command.{Command}
 use Rattle.command_words.specs.declared.command.Command.TheVariants as commands
 use Rattle.command_words.specs.declared.command.RunWords.{RunWords}
+use Rattle.command_words.specs.declared.linked_words.LinkedWords.{LinkedWords}
 use Rattle.proof_files.specs.Reading.{ProofRead}
 use Rattle.check_driver.specs.BytesAnswered.{AnswersBytes}
 use Rattle.check_driver.specs.CheckText.{all_methods_proved}
@@ -24,7 +25,7 @@ use Rattle.check_driver.specs.ProofMet.{IsProofMet, IsReadOf}
 use Rattle.check_driver.proofs.Answering.{two_files}
 use Rattle.check_driver.proofs.CheckParts.{leaves_none}
 use Rattle.check_driver.proofs.ProofCuts.{none_met}
-use Rattle.check_driver.proofs.Statuses.{never_memory, of_check, of_report, of_unit_file}
+use Rattle.check_driver.proofs.Statuses.{never_memory, of_check, of_linked, of_report, of_unit_file}
 use Rattle.unit_verdicts.specs.Picks.{limit_pick}
 use Rattle.written_assemblies.specs.GeneratedFiles.{generated_file}
 
@@ -99,6 +100,12 @@ module _ (words : List (List ℕ)) (cache : Option (List ℕ)) (files : List (Li
   check_words_answered check new gives left =
       check_answered (commands.Check check) words cache files unreplaced r out err old new (of_check (check_manner check cache) (words_at words (check_files check)) files) gives left
 
+  pub linked_words_answered : (linked : LinkedWords) (new : Option Held) → GivesOrUnreplaced (bytes_answer (commands.Linked linked) words cache None files) unreplaced r out err
+      → AnswerLeaves (bytes_left (commands.Linked linked) words cache files) (bytes_answer (commands.Linked linked) words cache None files).out r out old new
+      → Answered (commands.Linked linked) words cache files unreplaced r out err old new
+  linked_words_answered linked new gives left =
+      check_answered (commands.Linked linked) words cache files unreplaced r out err old new (of_linked (check_manner linked.check cache) (words_at words (linked_files linked)) files) gives left
+
 pub verify_answered : (words : List (List ℕ)) (cache : Option (List ℕ)) (read : List (Vec ℕ Global)) (unreplaced : Type 0) (r : Result ℕ Interrupt) (out err : Change) (old : Option Held)
     (file proof : ℕ) (a b : Vec ℕ Global) (first second : List ℕ) → length read ≡ 2 → first ≡ (slice_index_or read 0 a).items → second ≡ (slice_index_or read 1 b).items
     → (by : Option ProofRead) × IsReadOf second by × Gives (verify_answer (word_at words file) (word_at words proof) by first (FirstBroken first)) r out err
@@ -109,4 +116,4 @@ verify_answered words cache read unreplaced r out err old file proof a b first s
     subst (λ (fs : List (List ℕ)). Answered (commands.Verify file proof) words cache fs unreplaced r out err old old) (sym files)
     (read_answered (commands.Verify file proof) words cache (first ∷ second ∷ []) unreplaced r out err old by refl reads gives memory)
 
-pub ruleset answered = (unit_answered, list_answered, il_answered, run_answered, refute_answered, gen_answered, check_words_answered)
+pub ruleset answered = (unit_answered, list_answered, il_answered, run_answered, refute_answered, gen_answered, check_words_answered, linked_words_answered)

@@ -19,7 +19,7 @@ use Rattle.unit_verdicts.specs.VerdictCache.{manner_under}
 use Rattle.unit_verdicts.specs.declared.source.Source.{Source}
 use Rattle.unit_verdicts.specs.declared.source.Source.TheVariants.{Cache as OfCache}
 use Rattle.unit_verdicts.proofs.Honest.{honest_file}
-use Rattle.check_driver.specs.Asked.{check_keys}
+use Rattle.check_driver.specs.Asked.{check_keys, linked_keys}
 use Rattle.check_driver.specs.CacheMet.{CallMet, IsCacheUnder, IsMet, cache_entries, cache_refusal, command_cache, command_proof, entries_unless, met_of, without_cache}
 use Rattle.check_driver.specs.Expected.{check_answer, check_manner, command_answer, expected, files_answer, missing_or}
 use Rattle.check_driver.specs.FilesLeft.{AnswerLeaves, FrontIsLeft, LeavesFiles, LeftFile, are_accepted, bytes_left, command_left, left_by, left_unless, left_where}
@@ -62,6 +62,9 @@ bytes_none : (command : Command) (words : List (List ℕ)) (cache : Option (List
 bytes_none (commands.Check check) words cache files no_proof no_cache =
     none_where (are_accepted files) (command_proof words (commands.Check check)) (command_cache words (commands.Check check)) (OfCache (cache_entries cache)) (distinct (check_keys files))
     no_proof no_cache
+bytes_none (commands.Linked linked) words cache files no_proof no_cache =
+    none_where (are_accepted files) (command_proof words (commands.Linked linked)) (command_cache words (commands.Linked linked)) (OfCache (cache_entries cache)) (distinct (linked_keys files))
+    no_proof no_cache
 bytes_none (commands.Verify file proof) words cache files no_proof no_cache = refl
 bytes_none (commands.Unit file) words cache files no_proof no_cache = refl
 bytes_none (commands.List file) words cache files no_proof no_cache = refl
@@ -93,7 +96,7 @@ left_honest under bytes is honest =
     subst (λ (u : Option (List ℕ)). AreHonest (cache_entries u)) (sym is) (subst AreHonest (sym (ap (entries_unless bytes) read.passed)) read.honest)
 
 -- The entries that are used are those of what is held.
-entries_honest : (name : Option (List ℕ)) (held : Held) (cache : Option (List ℕ)) → IsCacheUnder (Some held) name cache → IsCacheHonest name held
+pub entries_honest : (name : Option (List ℕ)) (held : Held) (cache : Option (List ℕ)) → IsCacheUnder (Some held) name cache → IsCacheHonest name held
     → AreHonest (cache_entries cache)
 entries_honest None held cache none honest = subst (λ (u : Option (List ℕ)). AreHonest (cache_entries u)) (sym none) tt
 entries_honest (Some name) held cache is honest = subst (λ (u : Option (List ℕ)). AreHonest (cache_entries u)) (is held refl) honest
@@ -111,7 +114,7 @@ kept_honest (Some name) proof cache told now held after differ told_is now_is un
 -- ---- the same words without a cache
 
 -- What is met under the names of files that are held.
-met_is : (held : Held) (names : List (List ℕ)) (files : List (Option (List ℕ))) → AreUnder (Some held) names files → files ≡ map held names
+pub met_is : (held : Held) (names : List (List ℕ)) (files : List (Option (List ℕ))) → AreUnder (Some held) names files → files ≡ map held names
 met_is held [] [] under = refl
 met_is held (name ∷ names) (one ∷ files) (is, others) =
     ap (λ (o : Option (List ℕ)). o ∷ files) (sym (is held refl)) ∙ ap (λ (l : List (Option (List ℕ))). held name ∷ l) (met_is held names files others)
@@ -124,7 +127,7 @@ plain_answer show names line files =
     missing_or (first_missing names files) (after_line line (check_answer (manner_under show (OfCache [])) names (contents files)))
 
 -- The line makes no difference to the sink of output.
-alike_lines : (missing : Option (List ℕ)) (line text : List ℕ) (answer : Answer) → AreAlike (missing_or missing (after_line line answer)) (missing_or missing (after_line text answer))
+pub alike_lines : (missing : Option (List ℕ)) (line text : List ℕ) (answer : Answer) → AreAlike (missing_or missing (after_line line answer)) (missing_or missing (after_line text answer))
 alike_lines None line text answer = record { out = refl; status = refl }
 alike_lines (Some name) line text answer = record { out = refl; status = refl }
 
@@ -162,7 +165,7 @@ module _ (words other : List (List ℕ)) (asks : AsksWithoutCache words other) (
       (alike_lines (first_missing names met.files) line text (check_answer (manner_under (is_some asks.check.show) (OfCache [])) names (contents met.files))))
 
 -- An answer behind lines, where no file is missing or the first that is missing has this name.
-known_alike : (missing : Option (List ℕ)) (Known : Type 0) (one another : List ℕ) (a b : Answer) → known_unless missing Known → (Known → a ≡ b)
+pub known_alike : (missing : Option (List ℕ)) (Known : Type 0) (one another : List ℕ) (a b : Answer) → known_unless missing Known → (Known → a ≡ b)
     → AreAlike (missing_or missing (after_line one a)) (missing_or missing (after_line another b))
 known_alike (Some name) Known one another a b known same = record { out = refl; status = refl }
 known_alike None Known one another a b known same =

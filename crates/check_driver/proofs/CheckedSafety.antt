@@ -12,7 +12,13 @@ use Rattle.command_words.specs.declared.command.Command.TheVariants as commands
 use Rattle.check_driver.specs.Checked.{AreHeldBegun, IfReports, IsReportable, IsSafeMethod, held_files}
 use Rattle.check_driver.specs.Headline.{IsAssemblyOf, WasAppended}
 use Rattle.check_driver.specs.Sections.{HasProvedLine, proved_line, section}
+use Rattle.check_driver.specs.LinkedReports.{CanRun}
+use Rattle.unit_builder.specs.Outcomes.{entries_of, outcome_of}
+use Rattle.unit_builder.specs.Scopes.{scope_of}
+use Rattle.unit_builder.specs.declared.entry.MethodEntry.{MethodEntry}
+use Rattle.check_driver.proofs.FindAll.{entries_alone}
 use Rattle.check_driver.proofs.Members.{mapped_at}
+use Rattle.check_driver.proofs.PrintedMethods.{IsSafeIn}
 use Rattle.check_driver.proofs.PrintedSafety.{said_method}
 use Rattle.check_driver.proofs.ReportSections.{IsToldOf, begun_section, said_of}
 use Rattle.check_driver.proofs.Reported.{method_said, report_said}
@@ -30,12 +36,17 @@ pub record IsKnownOf (told : Option Held) (words : List (List ℕ)) (held : Held
   pub begun : AreBegunOf told words old new (command_of words)
   pub appended : WasAppended old new text
 
+-- A method of a file alone that is safe.
+safe_alone : (bytes : List ℕ) (method : MethodRow) → IsSafeIn (scope_of bytes) method → IsSafeMethod bytes method
+unfolding outcome_of
+safe_alone bytes method safe = record { unit = safe.unit; analysed = safe.analysed; safe = safe.safe }
+
 -- The report of the assembly, under this name, has the line.
 record IsSaid (bytes line : List ℕ) : Type 0 where
   name : List ℕ
   manner : Manner
   known : IsReportable bytes
-  has : Contains (report_said name manner bytes) line
+  has : Contains (report_said name manner (entries_of bytes)) line
 
 module _ (told : Option Held) (words : List (List ℕ)) (held : Held) (k : ℕ) (bytes text : List ℕ) (old new : Option (List ℕ))
     (is : IsKnownOf told words held k bytes text old new) where
@@ -44,8 +55,8 @@ module _ (told : Option Held) (words : List (List ℕ)) (held : Held) (k : ℕ) 
       → IsToldOf manner (held_files held names) k line → IsSaid bytes line
   said_of_file manner names line kth found =
       let name = is.assembly.name in
-      let there : (name, unwrap_or (held name) []) ≡ found.file = mapped_at (λ (n : List ℕ). (n, unwrap_or (held n) [])) names k name found.file kth found.kth in
-      let same : found.file ≡ (name, bytes) = sym there ∙ ap (λ (under : Option (List ℕ)). (name, unwrap_or under [])) is.assembly.is_held in
+      let there : (name, unwrap_or (held name) []) ≡ found.item = mapped_at (λ (n : List ℕ). (n, unwrap_or (held n) [])) names k name found.item kth found.kth in
+      let same : found.item ≡ (name, bytes) = sym there ∙ ap (λ (under : Option (List ℕ)). (name, unwrap_or under [])) is.assembly.is_held in
       record {
         name = name;
         manner = manner;
@@ -62,6 +73,7 @@ module _ (told : Option Held) (words : List (List ℕ)) (held : Held) (k : ℕ) 
   said_by : (line : List ℕ) → Contains (section k text) line → (command : Option Command) → slice_get (checked_files words command) k ≡ Some is.assembly.name
       → AreBegunOf told words old new command → IsSaid bytes line
   said_by line has (Some (commands.Check check)) kth begun = said_of_names line has (words_at words (check_files check)) kth begun
+  said_by line has (Some (commands.Linked linked)) kth begun = absurd (none-some is.assembly.name kth)
   said_by line has (Some (commands.Verify file proof)) kth begun = said_of_names line has (words_at words (file ∷ [])) kth begun
   said_by line has (Some (commands.Unit file)) kth begun = absurd (none-some is.assembly.name kth)
   said_by line has (Some (commands.List file)) kth begun = absurd (none-some is.assembly.name kth)
@@ -85,5 +97,9 @@ module _ (told : Option Held) (words : List (List ℕ)) (held : Held) (k : ℕ) 
       let one = said (proved_line method) line in
       let head = codes "method " ++ hex 8 method.token.0 ++ codes " " ++ method.name in
       let same : proved_line method ≡ head ++ codes ": " ++ codes "proved" = sym (append_assoc head (codes ": ") (codes "proved")) in
-      said_method (IsSaid.name one) (IsSaid.manner one) bytes method (IsReportable.accepted (IsSaid.known one)) (IsReportable.runnable (IsSaid.known one)) has
-      (subst (Contains (report_said (IsSaid.name one) (IsSaid.manner one) bytes)) same (IsSaid.has one))
+      let name = IsSaid.name one in
+      let manner = IsSaid.manner one in
+      safe_alone bytes method
+      (said_method name manner (scope_of bytes) method (IsReportable.accepted (IsSaid.known one)) (subst CanRun (sym (entries_alone bytes)) (IsReportable.runnable (IsSaid.known one))) has
+      (subst (λ (entries : List MethodEntry). Contains (report_said name manner entries) (head ++ codes ": " ++ codes "proved")) (sym (entries_alone bytes))
+      (subst (Contains (report_said name manner (entries_of bytes))) same (IsSaid.has one))))

@@ -19,11 +19,10 @@ use Rattle.check_driver.specs.Asked.{AnswerAsks, bytes_asked, files_asked}
 use Rattle.check_driver.specs.BytesAnswered.{AnswersBytes}
 use Rattle.check_driver.specs.CacheMet.{CallMet, IsMet, cache_entries, command_cache, command_proof}
 use Rattle.check_driver.specs.CallRead.{IsReadIndex, cache_bytes}
-use Rattle.check_driver.specs.Checked.{IfCheck}
 use Rattle.check_driver.specs.Expected.{bytes_answer, files_answer}
 use Rattle.check_driver.specs.FilesLeft.{AnswerLeaves, IfEither, LeftFile, bytes_left, files_left}
 use Rattle.check_driver.specs.HonestCaches.{HonestWhereHonest}
-use Rattle.check_driver.specs.Known.{AnswerKnows, FilesKnown, KnowsCheck, known_unless}
+use Rattle.check_driver.specs.Known.{AnswerKnows, FilesKnown, Knows, known_unless}
 use Rattle.check_driver.specs.Met.{AreContents, AreUnder, IsCacheContent, bytes_read, first_missing}
 use Rattle.check_driver.specs.ProofMet.{IsProofMet}
 use Rattle.check_driver.proofs.Answering.{gives_read, gives_unread, missing_answer, missing_asked, missing_left, read_answer, read_asked, read_left}
@@ -111,7 +110,7 @@ module _ (told : Option Held) (words : List (List ℕ)) (command : Command) wher
       → IsProofMet (bytes_read read) by
       → AnswersBytes command words (cache_bytes own) by (bytes_read read) (IfEither proof cache (Rose f1 f2)) r out err mid now
       → Asks (bytes_asked command (cache_bytes own) (bytes_read read)) r before after
-      → IfOk r (λ status. IfCheck command (λ check. KnowsCheck check (cache_bytes own) (bytes_read read) status))
+      → IfOk r (λ status. Knows command (cache_bytes own) (bytes_read read) status)
       → HonestWhereHonest cache proof (cache_entries (cache_bytes own)) mid now → AnswersCall (Rose f0 f2) r out err before after now
   read_call mid now f0 f1 f2 first read own by r out err before after same kept is contents content proof_is answers asks knows honest =
       let met : CallMet = record { files = first.files; cache = first.cache; proof = by } in

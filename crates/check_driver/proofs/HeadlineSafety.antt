@@ -54,7 +54,7 @@ unfolding rows_of
 methods_long md = length-map (range_with_len 1 (method_count md)) (method_row md) ∙ length-range_with_len 1 (method_count md)
 
 -- The token of a method names it.
-named_itself : (bytes : List ℕ) (method : MethodRow) → FirstBroken bytes ≡ None → Contains (methods_of bytes) method → method_of bytes (as_token method.token.0) ≡ Some method
+pub named_itself : (bytes : List ℕ) (method : MethodRow) → FirstBroken bytes ≡ None → Contains (methods_of bytes) method → method_of bytes (as_token method.token.0) ≡ Some method
 named_itself bytes method whole (index, below, same) =
     let at : slice_get (methods_of bytes) index ≡ Some method = slice_get-get_or (methods_of bytes) index method below ∙ ap Some same in
     let token = token_at bytes index method at in

@@ -3,7 +3,8 @@ use Rattle.std.proofs.Common.{◌≡◌, ℕ, ◌+◌, List, [], ◌∷◌, ◌+
 use Rattle.std.proofs.lemmas.List.{map-append, take-append-drop}
 use Rattle.std.proofs.lemmas.List.Concat.{flat_map-append}
 use Rattle.asm_image.specs.declared.method_row.MethodRow.{MethodRow}
-use Rattle.unit_builder.specs.Outcomes.{entry_of, outcome_of}
+use Rattle.unit_builder.specs.Outcomes.{entry_in, outcome_in}
+use Rattle.unit_builder.specs.Scopes.{Scope}
 use Rattle.unit_builder.specs.declared.entry.MethodEntry.{MethodEntry}
 use Rattle.unit_verdicts.specs.Asked.{AsksFront}
 use Rattle.unit_verdicts.specs.VerdictCache.{CachedUnits}
@@ -13,52 +14,52 @@ use Rattle.check_driver.proofs.Judging.{asked_more, front_later, front_of_first,
 abbrev Keys : Type 0
 Keys = List (List ℕ)
 
--- The keys of these methods of an assembly.
-abbrev pub keys_of : List ℕ → List MethodRow → Keys
-keys_of asm methods = judged_keys (map (entry_of asm) methods)
+-- The keys of these methods of a file.
+abbrev pub keys_of : Scope → List MethodRow → Keys
+keys_of scope methods = judged_keys (map (entry_in scope) methods)
 
 abbrev pub entry_key : MethodEntry → Keys
 entry_key entry = outcome_key entry.outcome
 
-keys_behind : (asm : List ℕ) (a b : List MethodRow) → keys_of asm (a ++ b) ≡ keys_of asm a ++ keys_of asm b
-keys_behind asm a b = ap judged_keys (map-append (entry_of asm) a b) ∙ flat_map-append entry_key (map (entry_of asm) a) (map (entry_of asm) b)
+keys_behind : (scope : Scope) (a b : List MethodRow) → keys_of scope (a ++ b) ≡ keys_of scope a ++ keys_of scope b
+keys_behind scope a b = ap judged_keys (map-append (entry_in scope) a b) ∙ flat_map-append entry_key (map (entry_in scope) a) (map (entry_in scope) b)
 
-keys_next : (asm : List ℕ) (methods : List MethodRow) (n : ℕ) (method : MethodRow) → take (n + 1) methods ≡ take n methods ++ method ∷ []
-    → keys_of asm (take n methods) ++ outcome_key (outcome_of asm method) ≡ keys_of asm (take (n + 1) methods)
-keys_next asm methods n method next =
-    sym (ap (keys_of asm) next ∙ keys_behind asm (take n methods) (method ∷ [])
-    ∙ ap (λ (l : Keys). keys_of asm (take n methods) ++ l) (append-nil (outcome_key (outcome_of asm method))))
+keys_next : (scope : Scope) (methods : List MethodRow) (n : ℕ) (method : MethodRow) → take (n + 1) methods ≡ take n methods ++ method ∷ []
+    → keys_of scope (take n methods) ++ outcome_key (outcome_in scope method) ≡ keys_of scope (take (n + 1) methods)
+keys_next scope methods n method next =
+    sym (ap (keys_of scope) next ∙ keys_behind scope (take n methods) (method ∷ [])
+    ∙ ap (λ (l : Keys). keys_of scope (take n methods) ++ l) (append-nil (outcome_key (outcome_in scope method))))
 
 -- What was asked for some first methods is a prefix of what is asked for all.
-pub front_of_whole : (asm : List ℕ) (methods : List MethodRow) (n : ℕ) (cache : CachedUnits) (old new : Keys)
-    → AsksFront (asked_for cache (keys_of asm (take n methods))) old new → AsksFront (asked_for cache (keys_of asm methods)) old new
-front_of_whole asm methods n cache old new front =
-    let first = keys_of asm (take n methods) in
-    let rest = keys_of asm (drop n methods) in
-    let all : first ++ rest ≡ keys_of asm methods = sym (keys_behind asm (take n methods) (drop n methods)) ∙ ap (keys_of asm) (take-append-drop n methods) in
+pub front_of_whole : (scope : Scope) (methods : List MethodRow) (n : ℕ) (cache : CachedUnits) (old new : Keys)
+    → AsksFront (asked_for cache (keys_of scope (take n methods))) old new → AsksFront (asked_for cache (keys_of scope methods)) old new
+front_of_whole scope methods n cache old new front =
+    let first = keys_of scope (take n methods) in
+    let rest = keys_of scope (drop n methods) in
+    let all : first ++ rest ≡ keys_of scope methods = sym (keys_behind scope (take n methods) (drop n methods)) ∙ ap (keys_of scope) (take-append-drop n methods) in
     subst (λ (keys : Keys). AsksFront (asked_for cache keys) old new) all (front_of_first cache first rest old new front)
 
 -- What some first methods bring, and what the next one adds.
-module _ (asm : List ℕ) (methods : List MethodRow) (n : ℕ) (method : MethodRow) (cache now : CachedUnits) (next : take (n + 1) methods ≡ take n methods ++ method ∷ [])
-    (so_far : now ≡ with_judged cache (keys_of asm (take n methods))) where
+module _ (scope : Scope) (methods : List MethodRow) (n : ℕ) (method : MethodRow) (cache now : CachedUnits) (next : take (n + 1) methods ≡ take n methods ++ method ∷ [])
+    (so_far : now ≡ with_judged cache (keys_of scope (take n methods))) where
   abbrev first : Keys
-  first = keys_of asm (take n methods)
+  first = keys_of scope (take n methods)
 
   abbrev key : Keys
-  key = outcome_key (outcome_of asm method)
+  key = outcome_key (outcome_in scope method)
 
   -- What was judged, one method later.
-  pub judged_next : (new : CachedUnits) → new ≡ with_judged now key → new ≡ with_judged cache (keys_of asm (take (n + 1) methods))
-  judged_next new is = judged_more cache now first so_far key new is ∙ ap (with_judged cache) (keys_next asm methods n method next)
+  pub judged_next : (new : CachedUnits) → new ≡ with_judged now key → new ≡ with_judged cache (keys_of scope (take (n + 1) methods))
+  judged_next new is = judged_more cache now first so_far key new is ∙ ap (with_judged cache) (keys_next scope methods n method next)
 
   -- What was asked, one method later.
-  pub asked_next : (old mid new : Keys) → mid ≡ old ++ asked_for cache first → new ≡ mid ++ asked_for now key → new ≡ old ++ asked_for cache (keys_of asm (take (n + 1) methods))
+  pub asked_next : (old mid new : Keys) → mid ≡ old ++ asked_for cache first → new ≡ mid ++ asked_for now key → new ≡ old ++ asked_for cache (keys_of scope (take (n + 1) methods))
   asked_next old mid new asked more =
-      asked_more cache now first so_far key old mid new asked more ∙ ap (λ (keys : Keys). old ++ asked_for cache keys) (keys_next asm methods n method next)
+      asked_more cache now first so_far key old mid new asked more ∙ ap (λ (keys : Keys). old ++ asked_for cache keys) (keys_next scope methods n method next)
 
   -- A front of what the next method asks for, after what those before it asked for.
-  pub front_at_next : (old mid new : Keys) → mid ≡ old ++ asked_for cache first → AsksFront (asked_for now key) mid new → AsksFront (asked_for cache (keys_of asm methods)) old new
+  pub front_at_next : (old mid new : Keys) → mid ≡ old ++ asked_for cache first → AsksFront (asked_for now key) mid new → AsksFront (asked_for cache (keys_of scope methods)) old new
   front_at_next old mid new asked front =
-      front_of_whole asm methods (n + 1) cache old new
-      (subst (λ (keys : Keys). AsksFront (asked_for cache keys) old new) (keys_next asm methods n method next)
+      front_of_whole scope methods (n + 1) cache old new
+      (subst (λ (keys : Keys). AsksFront (asked_for cache keys) old new) (keys_next scope methods n method next)
       (front_later cache now first so_far key old mid new asked front))

@@ -1,6 +1,7 @@
 -- What is known of the files that were read is known of what is met.
 use Rattle.std.proofs.Common.{◌≡◌, ◌≢◌, ℕ, ◌≤◌, List, [], ◌∷◌, length, take, Vec, Global, Option, Some, None, Result, Ok, Err, refl, sym, ap, subst, ◌∙◌, arith, inl, inr}
 use Rattle.std.specs.Prelude.{IfOk, IfSome}
+use Rattle.std.specs.List.{AllByRecursion}
 use Rattle.std.proofs.lemmas.Bool.{cases_lt}
 use Rattle.std.proofs.lemmas.List.{take_all}
 use Rattle.std.proofs.lemmas.Option.{same_Some}
@@ -20,12 +21,14 @@ use Rattle.unit_verdicts.specs.declared.source.Source.TheVariants.{Cache as OfCa
 use Rattle.check_driver.specs.Asked.{check_keys}
 use Rattle.check_driver.specs.CacheMet.{CallMet, cache_entries}
 use Rattle.check_driver.specs.CallRead.{cache_bytes}
-use Rattle.check_driver.specs.Checked.{IfCheck}
-use Rattle.check_driver.specs.Known.{AnswerKnows, AreAllRunnable, FilesKnown, KnowsCheck, RunnableBefore, known_unless}
+use Rattle.check_driver.specs.Known.{AnswerKnows, AreAllRunnable, AreLinkedRunnable, FilesKnown, Knows, KnowsCheck, RunnableBefore, RunnableUnless, known_unless}
+use Rattle.check_driver.specs.LinkedReports.{CanRun, RefusedFile, first_refused}
 use Rattle.check_driver.specs.Met.{AreContents, IsCacheContent, IsContent, bytes_read, contents, first_missing}
 use Rattle.check_driver.proofs.Answering.{keys_alike}
 use Rattle.check_driver.proofs.CacheCuts.{entries_alike}
 use Rattle.check_driver.proofs.FilesRead.{none_missing}
+use Rattle.check_driver.proofs.LinkedFiles.{contents_same, read_same, refused_alike}
+use Rattle.unit_builder.specs.Linked.{linked_entries}
 
 -- ---- where nothing is known
 
@@ -33,7 +36,7 @@ use Rattle.check_driver.proofs.FilesRead.{none_missing}
 pub known_missing : (command : Command) (words : List (List ℕ)) (met : CallMet) (name : List ℕ) (r : Result ℕ Interrupt)
     → first_missing (words_at words (file_indexes command)) met.files ≡ Some name → AnswerKnows command words met r
 known_missing command words met name (Ok status) first = λ read.
-    subst (λ (missing : Option (List ℕ)). known_unless missing (IfCheck command (λ check. KnowsCheck check met.cache (contents met.files) status))) (sym first) tt
+    subst (λ (missing : Option (List ℕ)). known_unless missing (Knows command met.cache (contents met.files) status)) (sym first) tt
 known_missing command words met name (Err i) first = tt
 
 -- A file was not read.
@@ -42,18 +45,6 @@ known_unread command words met (Ok status) is = λ read. absurd (read is)
 known_unread command words met (Err i) is = tt
 
 -- ---- files that were read
-
--- An assembly that is accepted was not cut.
-whole_same : (whole bytes : List ℕ) (limit : ℕ) → limit ≡ READ_LIMIT → take limit whole ≡ bytes → FirstBroken whole ≡ None → bytes ≡ whole
-whole_same whole bytes limit is cut accepted =
-    elim (cases_lt (length whole) limit) [
-      | inl lt ↦ sym cut ∙ take_all limit whole (omega arith)
-      | inr ge ↦ absurd (let both = sym accepted ∙ large_first whole (omega (arith, is, ge)) in cc)
-    ]
-
-read_same : (whole bytes : List ℕ) → IsContent (Some whole) bytes → FirstBroken whole ≡ None → bytes ≡ whole
-read_same whole bytes (inl is) accepted = sym (same_Some whole bytes is)
-read_same whole bytes (inr cut) accepted = whole_same whole bytes READ_LIMIT refl (same_Some (take READ_LIMIT whole) bytes cut) accepted
 
 -- The units of what is met can be run where those of what was read can.
 before_alike : (whole bytes : List ℕ) (fault : Option AsmFault) (Others Later : Type 0) → FirstBroken whole ≡ fault → IsContent (Some whole) bytes
@@ -84,9 +75,22 @@ knows_alike check met read own status h is known = record {
       (subst (λ (keys : List (List ℕ)). IfSome check.proof (λ _. IsProofLeft (OfCache (cache_entries (cache_bytes own))) (distinct keys))) (sym (keys_alike met.files read h)) (known.left few));
 }
 
+-- The units of linked files can be run where those of what was read can.
+linked_runnable_alike : (met : List (Option (List ℕ))) (read : List (Vec ℕ Global)) → AreContents met read → AreLinkedRunnable (bytes_read read) → AreLinkedRunnable (contents met)
+unfolding AreLinkedRunnable
+linked_runnable_alike met read h known = by (first_refused (contents met)) refl
+  where
+    by : (refused : Option RefusedFile) → first_refused (contents met) ≡ refused → RunnableUnless refused (AllByRecursion CanRun (linked_entries (contents met)))
+    by (Some refused) is = tt
+    by None is =
+        let same = contents_same met read h is in
+        let its = subst (λ (found : Option RefusedFile). RunnableUnless found (AllByRecursion CanRun (linked_entries (bytes_read read)))) (sym (refused_alike met read h) ∙ is) known in
+        subst (λ (files : List (List ℕ)). AllByRecursion CanRun (linked_entries files)) same its
+
 command_alike : (command : Command) (met : CallMet) (read : List (Vec ℕ Global)) (own : Option (Vec ℕ Global)) (status : ℕ) → AreContents met.files read → IsCacheContent met.cache own
-    → IfCheck command (λ check. KnowsCheck check (cache_bytes own) (bytes_read read) status) → IfCheck command (λ check. KnowsCheck check met.cache (contents met.files) status)
+    → Knows command (cache_bytes own) (bytes_read read) status → Knows command met.cache (contents met.files) status
 command_alike (commands.Check check) met read own status h is known = knows_alike check met read own status h is known
+command_alike (commands.Linked linked) met read own status h is known = linked_runnable_alike met.files read h known
 command_alike (commands.Verify file proof) met read own status h is known = tt
 command_alike (commands.Unit file) met read own status h is known = tt
 command_alike (commands.List file) met read own status h is known = tt
@@ -96,8 +100,8 @@ command_alike (commands.Refute file method runs) met read own status h is known 
 command_alike (commands.Gen seed count) met read own status h is known = tt
 
 pub known_read : (command : Command) (words : List (List ℕ)) (met : CallMet) (read : List (Vec ℕ Global)) (own : Option (Vec ℕ Global)) (r : Result ℕ Interrupt) → AreContents met.files read
-    → IsCacheContent met.cache own → IfOk r (λ status. IfCheck command (λ check. KnowsCheck check (cache_bytes own) (bytes_read read) status)) → AnswerKnows command words met r
+    → IsCacheContent met.cache own → IfOk r (λ status. Knows command (cache_bytes own) (bytes_read read) status) → AnswerKnows command words met r
 known_read command words met read own (Ok status) h is known = λ other.
-    subst (λ (missing : Option (List ℕ)). known_unless missing (IfCheck command (λ check. KnowsCheck check met.cache (contents met.files) status)))
+    subst (λ (missing : Option (List ℕ)). known_unless missing (Knows command met.cache (contents met.files) status))
     (sym (none_missing (words_at words (file_indexes command)) met.files read h)) (command_alike command met read own status h is known)
 known_read command words met read own (Err i) h is known = tt

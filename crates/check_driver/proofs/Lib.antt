@@ -43,5 +43,12 @@ pub mod SectionLemmas
 pub mod ReportSections
 mod SectionExamples
 pub mod HeadlineSafety
+pub mod LinkedFiles
+pub mod LinkedBegun
+pub mod LinkedAnswers
+pub mod LinkedAlike
+pub mod LinkedSections
+pub mod LinkedSafety
+pub mod CallParts
 pub mod ProvedUnits
 pub mod SpelledUnits

@@ -8,11 +8,12 @@ use Rattle.std.proofs.lemmas.List.{get_or_past}
 use Rattle.std.proofs.lemmas.List.Quantifiers.{position-Some}
 use Rattle.std.proofs.lemmas.List.Sums.{sum_by-cons}
 use Rattle.std.proofs.lemmas.Slice.Eq.{bytes_eq-Decides}
-use Rattle.command_words.specs.Words.{are_check_words, are_few, cache_index, cache_name, check_files, check_words, command_of, command_of_three, command_of_two, file_command, gen_command, gen_told, il_command, is_cache, is_check_word, is_name_word, is_own_name, is_proof, MAX_METHODS, MAX_SEED, name_place, names_file, names_run, other_command, proof_index, proof_name, refute_command, run_command, run_steps, runs_told, tells_name, tells_show, verify_command, args_end, word_at, word_index}
+use Rattle.command_words.specs.Words.{MAX_REFS, are_check_words, are_few, are_refs_named, cache_index, cache_name, check_command, check_files, check_words, command_of, command_of_three, command_of_two, file_command, gen_command, gen_told, il_command, is_cache, is_check_word, is_name_word, is_own_name, is_proof, is_ref, linked_words, MAX_METHODS, MAX_SEED, name_place, names_file, names_run, other_command, padded, proof_index, proof_name, refs_from, refute_command, run_command, run_steps, runs_told, tells_name, tells_show, verify_command, args_end, word_at, word_index}
 use Rattle.run_arguments.specs.Numbers.{number_of_word}
 use Rattle.command_words.specs.declared.check_words.CheckWords.{CheckWords}
 use Rattle.command_words.specs.declared.command.Command.{Command}
 use Rattle.command_words.specs.declared.command.Command.TheVariants as commands
+use Rattle.command_words.specs.declared.linked_words.LinkedWords.{LinkedWords}
 use Rattle.check_driver.proofs.Members.{contains_first, none_contained}
 
 -- ---- a word that stands at one place alone
@@ -97,8 +98,9 @@ known : (rest : Words) (check : CheckWords) → IsCheckOf rest check → IsKnown
 unfolding check_words
 known rest check is =
     let both = checked_if (are_check_words rest) _ check is in
-    let last = and_parts (list_all is_check_word rest && are_few rest && is_own_name rest (name_place is_cache rest)) (is_own_name rest (name_place is_proof rest)) both.0 in
-    let before = and_parts (list_all is_check_word rest && are_few rest) (is_own_name rest (name_place is_cache rest)) last.0 in record {
+    let named = list_all is_check_word rest && are_few rest && are_refs_named rest in
+    let last = and_parts (named && is_own_name rest (name_place is_cache rest)) (is_own_name rest (name_place is_proof rest)) both.0 in
+    let before = and_parts named (is_own_name rest (name_place is_cache rest)) last.0 in record {
       cache_own = before.1;
       proof_own = last.1;
       count = sym (ap (λ (c : CheckWords). c.count) both.1);
@@ -237,6 +239,7 @@ names_parts check index is =
 -- No check.
 abbrev IsOther : Option Command → Type 0
 IsOther (Some (commands.Check check)) = ⊥
+IsOther (Some (commands.Linked linked)) = ⊥
 IsOther _ = Unit {0}
 
 other_if : (test : Bool) (a b : Option Command) → IsOther a → IsOther b → IsOther (cond test a b)
@@ -302,13 +305,16 @@ record IsCheckWords (words : Words) (check : CheckWords) : Type 0 where
   same : words ≡ first ∷ rest
   is : IsKnown rest check
 
-check_by : (word : List ℕ) (rest : Words) (check : CheckWords) (test : Bool) → cond test (option_map commands.Check (check_words rest)) (other_command (word ∷ rest)) ≡ Some (commands.Check check)
+check_made : (test : Bool) (found : Option CheckWords) (other : Option LinkedWords) (check : CheckWords)
+    → cond test (option_map commands.Check found) (option_map commands.Linked other) ≡ Some (commands.Check check) → found ≡ Some check
+check_made true None other check e = absurd cc
+check_made true (Some its) other check e = cc
+check_made false found None check e = absurd cc
+check_made false found (Some linked) check e = absurd cc
+
+check_by : (word : List ℕ) (rest : Words) (check : CheckWords) (test : Bool) → cond test (check_command rest) (other_command (word ∷ rest)) ≡ Some (commands.Check check)
     → check_words rest ≡ Some check
-check_by word rest check true is = made (check_words rest) is
-  where
-    made : (found : Option CheckWords) → option_map commands.Check found ≡ Some (commands.Check check) → found ≡ Some check
-    made None e = absurd cc
-    made (Some its) e = cc
+check_by word rest check true is = check_made (count_by is_ref rest == 0) (check_words rest) (linked_words rest) check is
 check_by word rest check false is = absurd (subst IsOther is (other_is (word ∷ rest)))
 
 check_is : (words : Words) (check : CheckWords) → command_of words ≡ Some (commands.Check check) → IsCheckWords words check
@@ -316,16 +322,43 @@ check_is [] check is = absurd cc
 check_is (word ∷ rest) check is =
     record { first = word; rest = rest; same = refl; is = known rest check (check_by word rest check (bytes_eq word (codes "check")) is) }
 
+-- The words of a check with references are those of a check.
+linked_made : (test : Bool) (found : Option CheckWords) (refs : List (Option ℕ)) (linked : LinkedWords)
+    → cond test (option_map commands.Check found) (option_map commands.Linked (option_map (λ check. record { check = check; refs = refs }) found)) ≡ Some (commands.Linked linked)
+    → found ≡ Some linked.check
+linked_made true None refs linked e = absurd cc
+linked_made true (Some its) refs linked e = absurd cc
+linked_made false None refs linked e = absurd cc
+linked_made false (Some its) refs linked e = ap its_check e
+  where
+    its_check : Option Command → Option CheckWords
+    its_check (Some (commands.Linked words)) = Some words.check
+    its_check _ = None
+
+linked_by : (word : List ℕ) (rest : Words) (linked : LinkedWords) (test : Bool) → cond test (check_command rest) (other_command (word ∷ rest)) ≡ Some (commands.Linked linked)
+    → check_words rest ≡ Some linked.check
+unfolding linked_words
+linked_by word rest linked true is = linked_made (count_by is_ref rest == 0) (check_words rest) (padded MAX_REFS (refs_from 1 rest)) linked is
+linked_by word rest linked false is = absurd (subst IsOther is (other_is (word ∷ rest)))
+
+linked_is : (words : Words) (linked : LinkedWords) → command_of words ≡ Some (commands.Linked linked) → IsCheckWords words linked.check
+linked_is [] linked is = absurd cc
+linked_is (word ∷ rest) linked is =
+    record { first = word; rest = rest; same = refl; is = known rest linked.check (linked_by word rest linked (bytes_eq word (codes "check")) is) }
+
 -- The proof file of a check has another name than its cache.
-pub proof_apart : (words : Words) (check : CheckWords) (cache proof : ℕ) → command_of words ≡ Some (commands.Check check) → check.cache ≡ Some cache → check.proof ≡ Some proof
+names_apart : (words : Words) (check : CheckWords) (cache proof : ℕ) → IsCheckWords words check → check.cache ≡ Some cache → check.proof ≡ Some proof
     → word_at words proof ≢ word_at words cache
-proof_apart words check cache proof command named_cache named_proof = λ same.
-    let its = check_is words check command in
+names_apart words check cache proof its named_cache named_proof = λ same.
     let is = IsCheckWords.is its in
     different_names (IsCheckWords.first its) (IsCheckWords.rest its) cache proof
     (named is_cache (IsCheckWords.rest its) cache (IsKnown.cache_own is) (sym named_cache ∙ IsKnown.cache is))
     (named is_proof (IsCheckWords.rest its) proof (IsKnown.proof_own is) (sym named_proof ∙ IsKnown.proof is))
     (subst (λ (w : Words). word_at w proof ≡ word_at w cache) (IsCheckWords.same its) same)
+
+pub proof_apart : (words : Words) (check : CheckWords) (cache proof : ℕ) → command_of words ≡ Some (commands.Check check) → check.cache ≡ Some cache → check.proof ≡ Some proof
+    → word_at words proof ≢ word_at words cache
+proof_apart words check cache proof command named_cache named_proof = names_apart words check cache proof (check_is words check command) named_cache named_proof
 
 -- So has each of its files.
 pub file_not_proof : (words : Words) (check : CheckWords) (file proof : ℕ) → command_of words ≡ Some (commands.Check check) → Contains (check_files check) file → check.proof ≡ Some proof
@@ -363,6 +396,10 @@ apart_by words (Some (commands.Check check)) name asked cache = λ proof.
     let (c, c_is, c_name) = option_named words check.cache name cache in
     let (p, p_is, p_name) = option_named words check.proof name proof in
     proof_apart words check c p asked c_is p_is (p_name ∙ sym c_name)
+apart_by words (Some (commands.Linked linked)) name asked cache = λ proof.
+    let (c, c_is, c_name) = option_named words linked.check.cache name cache in
+    let (p, p_is, p_name) = option_named words linked.check.proof name proof in
+    names_apart words linked.check c p (linked_is words linked asked) c_is p_is (p_name ∙ sym c_name)
 apart_by words (Some (commands.Verify file proof)) name asked cache = λ is. absurd cc
 apart_by words (Some (commands.Unit file)) name asked cache = λ is. absurd cc
 apart_by words (Some (commands.List file)) name asked cache = λ is. absurd cc

@@ -9,15 +9,17 @@ use Rattle.asm_image.specs.Rows.{method_row}
 use Rattle.asm_image.specs.declared.method_row.MethodRow.{MethodRow}
 use Rattle.pe_reader.specs.Addresses.{metadata}
 use Rattle.cil_model.specs.declared.unit.CalleeInfo.{CalleeInfo}
+use Rattle.cil_model.specs.declared.unit.Unit.{Unit as MethodUnit}
 use Rattle.invariant_checker.specs.Counts.{all_proved}
+use Rattle.invariant_checker.specs.Safety.{IsSafe}
 use Rattle.invariant_checker.specs.declared.verdict.Verdict.{Verdict}
 use Rattle.unit_verdicts.proofs.UnitSafety.{proved_under_safe}
 use Rattle.method_unit.specs.Units.{IsUnit}
-use Rattle.unit_builder.specs.Outcomes.{IfAnalysed, entry_of, outcome_of}
+use Rattle.unit_builder.specs.Outcomes.{IfAnalysed, entry_in, outcome_in}
+use Rattle.unit_builder.specs.Scopes.{Scope}
 use Rattle.unit_builder.specs.declared.entry.Outcome.{Outcome}
 use Rattle.unit_builder.specs.declared.entry.Outcome.TheVariants.{Analysed, Skipped}
 use Rattle.check_driver.specs.CheckText.{Finding, WithVerdicts, NotAnalysed, outcome_finding, is_proved, verdict_text}
-use Rattle.check_driver.specs.Checked.{IsSafeMethod}
 use Rattle.answer_lines.specs.Lines.{proved_text}
 use Rattle.check_driver.proofs.Members.{contains_behind, contains_first, none_contained}
 use Rattle.check_driver.proofs.Reported.{entry_said, finding_said, method_said, shown_said, verdict_said, verdicts_said}
@@ -116,32 +118,32 @@ none_of_shown manner outcome token name text has = no_shown_line manner outcome 
 -- ---- the line among those of some rows
 
 -- What is told of the method of a row.
-unfoldable pub row_said : Pick → List ℕ → ℕ → List ℕ
-row_said pick asm row =
-    let method = method_row (metadata asm) row in method_said method.token.0 method.name (verdict_text (outcome_finding pick (outcome_of asm method)))
+unfoldable pub row_said : Pick → Scope → ℕ → List ℕ
+row_said pick scope row =
+    let method = method_row (metadata scope.asm) row in method_said method.token.0 method.name (verdict_text (outcome_finding pick (outcome_in scope method)))
 
-pub among_rows : (asm : List ℕ) (manner : Manner) (rows : List ℕ) (token : ℕ) (name text : List ℕ)
-    → Contains (flat_map (entry_said manner) (map (entry_of asm) (map (method_row (metadata asm)) rows))) (method_said token name text)
-    → (row : ℕ) × Contains rows row × (row_said manner.pick asm row ≡ method_said token name text)
+pub among_rows : (scope : Scope) (manner : Manner) (rows : List ℕ) (token : ℕ) (name text : List ℕ)
+    → Contains (flat_map (entry_said manner) (map (entry_in scope) (map (method_row (metadata scope.asm)) rows))) (method_said token name text)
+    → (row : ℕ) × Contains rows row × (row_said manner.pick scope row ≡ method_said token name text)
 unfolding entry_said finding_said row_said
-among_rows asm manner [] token name text has = absurd (none_contained _ has)
-among_rows asm manner (row ∷ rows) token name text has =
+among_rows scope manner [] token name text has = absurd (none_contained _ has)
+among_rows scope manner (row ∷ rows) token name text has =
     let line = method_said token name text in
-    let method = method_row (metadata asm) row in
-    let found = outcome_finding manner.pick (outcome_of asm method) in
-    let said = row_said manner.pick asm row ∷ verdicts_said found in
-    elim (contains_behind (said ++ shown_said manner (outcome_of asm method)) (flat_map (entry_said manner) (map (entry_of asm) (map (method_row (metadata asm)) rows))) line has) [
+    let method = method_row (metadata scope.asm) row in
+    let found = outcome_finding manner.pick (outcome_in scope method) in
+    let said = row_said manner.pick scope row ∷ verdicts_said found in
+    elim (contains_behind (said ++ shown_said manner (outcome_in scope method)) (flat_map (entry_said manner) (map (entry_in scope) (map (method_row (metadata scope.asm)) rows))) line has) [
       | inl here ↦
-          elim (contains_behind said (shown_said manner (outcome_of asm method)) line here) [
+          elim (contains_behind said (shown_said manner (outcome_in scope method)) line here) [
             | inl among ↦
-                elim (contains_first (row_said manner.pick asm row) line (verdicts_said found) among) [
+                elim (contains_first (row_said manner.pick scope row) line (verdicts_said found) among) [
                   | inl same ↦ (row, (0, omega arith, refl), same)
                   | inr verdict ↦ absurd (none_of_finding found token name text verdict)
                 ]
-            | inr shown ↦ absurd (none_of_shown manner (outcome_of asm method) token name text shown)
+            | inr shown ↦ absurd (none_of_shown manner (outcome_in scope method) token name text shown)
           ]
       | inr later ↦
-          let there = among_rows asm manner rows token name text later in
+          let there = among_rows scope manner rows token name text later in
           (there.0, (suc there.1.0, omega (arith, there.1.1), there.1.2), there.2)
     ]
 
@@ -155,9 +157,15 @@ proved_tells (WithVerdicts callees found) e = by_verdict (all_proved found) e
     by_verdict false e = absurd (let letters : 117 ≡ 112 = ap (λ (l : List ℕ). get_or l 0 0) e in omega (arith, letters))
 proved_tells (NotAnalysed reason) e = absurd (let letters : 110 ≡ 112 = ap (λ (l : List ℕ). get_or l 0 0) e in omega (arith, letters))
 
+-- The method of a file is analysed, and its unit is safe.
+pub record IsSafeIn (scope : Scope) (method : MethodRow) : Type 0 where
+  pub unit : MethodUnit
+  pub analysed : outcome_in scope method ≡ Analysed unit
+  pub safe : IsSafe unit
+
 -- A method that is proved is analysed, and its unit has no obligation that is not proved.
-pub safe_by : (pick : Pick) (asm : List ℕ) (method : MethodRow) (outcome : Outcome) → outcome_of asm method ≡ outcome
-    → is_proved (outcome_finding pick outcome) ≡ true → IfAnalysed outcome IsUnit → IsSafeMethod asm method
-safe_by pick asm method (Analysed unit) same proved runnable =
+pub safe_by : (pick : Pick) (scope : Scope) (method : MethodRow) (outcome : Outcome) → outcome_in scope method ≡ outcome
+    → is_proved (outcome_finding pick outcome) ≡ true → IfAnalysed outcome IsUnit → IsSafeIn scope method
+safe_by pick scope method (Analysed unit) same proved runnable =
     record { unit = unit; analysed = same; safe = proved_under_safe pick unit runnable proved }
-safe_by pick asm method (Skipped reason) same proved runnable = absurd cc
+safe_by pick scope method (Skipped reason) same proved runnable = absurd cc

@@ -1,5 +1,5 @@
 -- A method is safe whose line in the report of its assembly tells it to be proved.
-use Rattle.std.proofs.Common.{◌≡◌, ℕ, zero, suc, ◌+◌, ◌<◌, ◌^◌, List, [], ◌∷◌, ◌++◌, get_or, None, refl, sym, ap, subst, inl, inr, codes, arith}
+use Rattle.std.proofs.Common.{◌≡◌, ℕ, zero, suc, ◌+◌, ◌<◌, ◌^◌, List, [], ◌∷◌, ◌++◌, get_or, map, None, refl, sym, ap, subst, inl, inr, codes, arith}
 use Rattle.std.specs.Prelude.{Contains}
 use Rattle.std.specs.List.{AllByRecursion, flat_map, range_with_len}
 use Rattle.asm_image.specs.Cells.{method_count}
@@ -9,12 +9,13 @@ use Rattle.asm_image.specs.declared.method_row.MethodRow.{MethodRow}
 use Rattle.cc_base.specs.Escapes.{escaped}
 use Rattle.pe_reader.specs.Addresses.{metadata}
 use Rattle.method_unit.specs.Units.{IsUnit}
-use Rattle.unit_builder.specs.Outcomes.{IfAnalysed, entries_of, entry_of, outcome_of}
+use Rattle.unit_builder.specs.Outcomes.{IfAnalysed, entry_in, outcome_in}
+use Rattle.unit_builder.specs.Scopes.{Scope}
 use Rattle.unit_builder.specs.declared.entry.MethodEntry.{MethodEntry}
 use Rattle.check_driver.specs.CheckText.{all_counts, outcome_finding, verdict_text}
-use Rattle.check_driver.specs.Checked.{AreRunnable, IsSafeMethod}
+use Rattle.check_driver.specs.LinkedReports.{CanRun}
 use Rattle.check_driver.proofs.FewMethods.{methods_are_few}
-use Rattle.check_driver.proofs.PrintedMethods.{among_rows, behind_digits, proved_tells, row_said, safe_by, same_said, same_text}
+use Rattle.check_driver.proofs.PrintedMethods.{IsSafeIn, among_rows, behind_digits, proved_tells, row_said, safe_by, same_said, same_text}
 use Rattle.check_driver.proofs.Members.{all_at, contains_behind, contains_first, contains_map, none_contained}
 use Rattle.check_driver.proofs.Reported.{entry_said, method_said, report_said}
 use Rattle.answer_lines.proofs.SingleLines.{summary_front, summary_said}
@@ -34,28 +35,32 @@ range_below first (suc count) row has =
 
 -- ---- the line
 
-pub report_one_line : (name : List ℕ) (manner : Manner) (bytes : List ℕ) → AreRunnable bytes
-    → AllByRecursion IsOneLine (report_said name manner bytes)
-unfolding report_said entries_of rows_of
-report_one_line name manner bytes runnable = (
+-- An entry for each method of the file.
+abbrev pub entries_with : Scope → List MethodEntry
+entries_with scope = map (entry_in scope) (methods_of scope.asm)
+
+pub report_one_line : (name : List ℕ) (manner : Manner) (scope : Scope) → CanRun (entries_with scope)
+    → AllByRecursion IsOneLine (report_said name manner (entries_with scope))
+unfolding report_said rows_of
+report_one_line name manner scope runnable = (
   assembly_one_line name,
-  all_behind IsOneLine (flat_map (entry_said manner) (entries_of bytes)) (summary_said (all_counts manner.pick (entries_of bytes)) ∷ [])
-      (rows_one_line bytes manner (range_with_len 1 (method_count (metadata bytes))) runnable) (summary_one_line (all_counts manner.pick (entries_of bytes)), tt),
+  all_behind IsOneLine (flat_map (entry_said manner) (entries_with scope)) (summary_said (all_counts manner.pick (entries_with scope)) ∷ [])
+      (rows_one_line scope manner (range_with_len 1 (method_count (metadata scope.asm))) runnable) (summary_one_line (all_counts manner.pick (entries_with scope)), tt),
 )
 
 -- The line of a method among those of a report is that of a row.
-row_of_report : (name : List ℕ) (manner : Manner) (bytes : List ℕ) (token : ℕ) (method text : List ℕ) → Contains (report_said name manner bytes) (method_said token method text)
-    → (row : ℕ) × Contains (range_with_len 1 (method_count (metadata bytes))) row × (row_said manner.pick bytes row ≡ method_said token method text)
-unfolding report_said entries_of rows_of summary_said summary_front method_said
-row_of_report name manner bytes token method text has =
+row_of_report : (name : List ℕ) (manner : Manner) (scope : Scope) (token : ℕ) (method text : List ℕ) → Contains (report_said name manner (entries_with scope)) (method_said token method text)
+    → (row : ℕ) × Contains (range_with_len 1 (method_count (metadata scope.asm))) row × (row_said manner.pick scope row ≡ method_said token method text)
+unfolding report_said rows_of summary_said summary_front method_said
+row_of_report name manner scope token method text has =
     let line = method_said token method text in
-    let said = flat_map (entry_said manner) (entries_of bytes) in
-    let summary = summary_said (all_counts manner.pick (entries_of bytes)) in
+    let said = flat_map (entry_said manner) (entries_with scope) in
+    let summary = summary_said (all_counts manner.pick (entries_with scope)) in
     elim (contains_first (codes "assembly " ++ escaped name) line (said ++ summary ∷ []) has) [
       | inl same ↦ absurd (let letters : 97 ≡ 109 = ap (λ (l : List ℕ). get_or l 0 0) same in omega (arith, letters))
       | inr later ↦
           elim (contains_behind said (summary ∷ []) line later) [
-            | inl here ↦ among_rows bytes manner (range_with_len 1 (method_count (metadata bytes))) token method text here
+            | inl here ↦ among_rows scope manner (range_with_len 1 (method_count (metadata scope.asm))) token method text here
             | inr last ↦
                 elim (contains_first summary line [] last) [
                   | inl same ↦ absurd (let letters : 115 ≡ 109 = ap (λ (l : List ℕ). get_or l 0 0) same in omega (arith, letters))
@@ -67,35 +72,35 @@ row_of_report name manner bytes token method text has =
 -- ---- the method
 
 -- Rows whose lines are equal but for what they tell are one.
-same_row : (pick : Pick) (bytes : List ℕ) (row other : ℕ) (text : List ℕ) → row < 2 ^ 23 + 1 → other < 2 ^ 23 + 1
-    → row_said pick bytes other ≡ method_said (method_row (metadata bytes) row).token.0 (method_row (metadata bytes) row).name text
-    → (other ≡ row) × (verdict_text (outcome_finding pick (outcome_of bytes (method_row (metadata bytes) row))) ≡ text)
+same_row : (pick : Pick) (scope : Scope) (row other : ℕ) (text : List ℕ) → row < 2 ^ 23 + 1 → other < 2 ^ 23 + 1
+    → row_said pick scope other ≡ method_said (method_row (metadata scope.asm) row).token.0 (method_row (metadata scope.asm) row).name text
+    → (other ≡ row) × (verdict_text (outcome_finding pick (outcome_in scope (method_row (metadata scope.asm) row))) ≡ text)
 unfolding row_said method_row
-same_row pick bytes row other text small few e =
-    let mine = method_row (metadata bytes) row in
-    let its = method_row (metadata bytes) other in
-    let both = same_said its.token.0 mine.token.0 its.name mine.name (verdict_text (outcome_finding pick (outcome_of bytes its))) text (omega (arith, few)) (omega (arith, small)) e in
+same_row pick scope row other text small few e =
+    let mine = method_row (metadata scope.asm) row in
+    let its = method_row (metadata scope.asm) other in
+    let both = same_said its.token.0 mine.token.0 its.name mine.name (verdict_text (outcome_finding pick (outcome_in scope its))) text (omega (arith, few)) (omega (arith, small)) e in
     let same : other ≡ row = omega (arith, both.0) in (
       same,
-      same_text mine.name (verdict_text (outcome_finding pick (outcome_of bytes mine))) text
-          (subst (λ (r : ℕ). behind_digits (method_row (metadata bytes) r).name (verdict_text (outcome_finding pick (outcome_of bytes (method_row (metadata bytes) r)))) ≡ behind_digits mine.name text) same both.1),
+      same_text mine.name (verdict_text (outcome_finding pick (outcome_in scope mine))) text
+          (subst (λ (r : ℕ). behind_digits (method_row (metadata scope.asm) r).name (verdict_text (outcome_finding pick (outcome_in scope (method_row (metadata scope.asm) r)))) ≡ behind_digits mine.name text) same both.1),
     )
 
 -- A method is safe that is told to be proved by one of the lines of the report of its assembly.
-pub said_method : (name : List ℕ) (manner : Manner) (bytes : List ℕ) (method : MethodRow) → FirstBroken bytes ≡ None → AreRunnable bytes
-    → Contains (methods_of bytes) method → Contains (report_said name manner bytes) (method_said method.token.0 method.name (codes "proved")) → IsSafeMethod bytes method
-unfolding entries_of rows_of row_said method_row
-said_method name manner bytes method whole runnable has line =
-    let md = metadata bytes in
+pub said_method : (name : List ℕ) (manner : Manner) (scope : Scope) (method : MethodRow) → FirstBroken scope.asm ≡ None → CanRun (entries_with scope)
+    → Contains (methods_of scope.asm) method → Contains (report_said name manner (entries_with scope)) (method_said method.token.0 method.name (codes "proved")) → IsSafeIn scope method
+unfolding rows_of row_said method_row
+said_method name manner scope method whole runnable has line =
+    let md = metadata scope.asm in
     let rows = range_with_len 1 (method_count md) in
     let mine = contains_map (method_row md) rows method has in
-    let few = methods_are_few bytes whole in
+    let few = methods_are_few scope.asm whole in
     let row = mine.0 in
-    let found : Contains (report_said name manner bytes) (method_said (method_row md row).token.0 (method_row md row).name (codes "proved")) =
-    subst (λ (m : MethodRow). Contains (report_said name manner bytes) (method_said m.token.0 m.name (codes "proved"))) (sym mine.2) line in
-    let told = row_of_report name manner bytes (method_row md row).token.0 (method_row md row).name (codes "proved") found in
-    let same = same_row manner.pick bytes row told.0 (codes "proved") (omega (arith, few, range_below 1 (method_count md) row mine.1)) (omega (arith, few, range_below 1 (method_count md) told.0 told.1)) told.2 in
-    let is_runnable = all_at (λ (entry : MethodEntry). IfAnalysed entry.outcome IsUnit) (entry_of bytes) (methods_of bytes) (method_row md row) runnable (subst (Contains (methods_of bytes)) (sym mine.2) has) in
-    subst (IsSafeMethod bytes) mine.2
-    (safe_by manner.pick bytes (method_row md row) (outcome_of bytes (method_row md row)) refl
-    (proved_tells (outcome_finding manner.pick (outcome_of bytes (method_row md row))) same.1) is_runnable)
+    let found : Contains (report_said name manner (entries_with scope)) (method_said (method_row md row).token.0 (method_row md row).name (codes "proved")) =
+    subst (λ (m : MethodRow). Contains (report_said name manner (entries_with scope)) (method_said m.token.0 m.name (codes "proved"))) (sym mine.2) line in
+    let told = row_of_report name manner scope (method_row md row).token.0 (method_row md row).name (codes "proved") found in
+    let same = same_row manner.pick scope row told.0 (codes "proved") (omega (arith, few, range_below 1 (method_count md) row mine.1)) (omega (arith, few, range_below 1 (method_count md) told.0 told.1)) told.2 in
+    let is_runnable = all_at (λ (entry : MethodEntry). IfAnalysed entry.outcome IsUnit) (entry_in scope) (methods_of scope.asm) (method_row md row) runnable (subst (Contains (methods_of scope.asm)) (sym mine.2) has) in
+    subst (IsSafeIn scope) mine.2
+    (safe_by manner.pick scope (method_row md row) (outcome_in scope (method_row md row)) refl
+    (proved_tells (outcome_finding manner.pick (outcome_in scope (method_row md row))) same.1) is_runnable)

@@ -3,10 +3,11 @@ use Rattle.std.proofs.Common.{◌≡◌, ◌≢◌, ℕ, List, [], ◌∷◌, �
 use Rattle.std.specs.Prelude.{Contains}
 use Rattle.std.specs.List.{AllByRecursion, flat_map}
 use Rattle.std.proofs.lemmas.Bool.{ne_eqb}
-use Rattle.cc_base.specs.Sink.{IsFront}
+use Rattle.cc_base.specs.Sink.{AppendsFront, IsFront}
 use Rattle.cil_model.specs.declared.unit.CalleeInfo.{CalleeInfo}
 use Rattle.invariant_checker.specs.declared.verdict.Verdict.{Verdict}
-use Rattle.unit_builder.specs.Outcomes.{entries_of}
+use Rattle.unit_builder.specs.Outcomes.{entries_in, entries_of}
+use Rattle.unit_builder.specs.Scopes.{Scope, scope_of}
 use Rattle.unit_builder.specs.declared.entry.MethodEntry.{MethodEntry}
 use Rattle.unit_builder.specs.declared.entry.Outcome.{Outcome}
 use Rattle.answer_lines.specs.declared.lines.Counts.{Counts}
@@ -15,10 +16,12 @@ use Rattle.answer_lines.proofs.WholeLines.{IsOneLine, as_lines}
 use Rattle.check_driver.specs.CheckText.{Finding, NotAnalysed, WithVerdicts, all_counts, check_text, outcome_finding, outcome_shown, verdict_text}
 use Rattle.check_driver.specs.Checked.{AreBegun, IsReportable, report_of}
 use Rattle.check_driver.specs.Headline.{WasAppended}
+use Rattle.check_driver.specs.LinkedReports.{CanRun}
 use Rattle.check_driver.specs.Sections.{lines_of, section, sections_of}
 use Rattle.check_driver.proofs.Members.{all_of_each, held_at, taken_at}
 use Rattle.check_driver.proofs.OnlyFile.{same_appended}
-use Rattle.check_driver.proofs.PrintedSafety.{report_one_line}
+use Rattle.check_driver.proofs.FindAll.{entries_alone}
+use Rattle.check_driver.proofs.PrintedSafety.{entries_with, report_one_line}
 use Rattle.check_driver.proofs.ReportTexts.{all_behind}
 use Rattle.check_driver.proofs.Reported.{entry_said, finding_said, lines_behind, method_said, report_is_lines, report_said, shown_said, verdict_said, verdicts_said}
 use Rattle.check_driver.proofs.SectionLemmas.{IsInside, IsSection, front_of_lines, section_of_front}
@@ -71,62 +74,77 @@ summary_inside : (n : Counts) → IsInside (summary_said n)
 unfolding summary_said summary_front
 summary_inside n = inside (summary_said n) (λ e. let letters : 115 ≡ 97 = e in omega (arith, letters))
 
-report_is_section : (name : List ℕ) (manner : Manner) (bytes : List ℕ) → IsSection (report_said name manner bytes)
+pub report_is_section : (name : List ℕ) (manner : Manner) (entries : List MethodEntry) → IsSection (report_said name manner entries)
 unfolding report_said
-report_is_section name manner bytes = (
+report_is_section name manner entries = (
   refl,
-  all_behind IsInside (flat_map (entry_said manner) (entries_of bytes)) (summary_said (all_counts manner.pick (entries_of bytes)) ∷ []) (entries_inside manner (entries_of bytes))
-      (summary_inside (all_counts manner.pick (entries_of bytes)), tt),
+  all_behind IsInside (flat_map (entry_said manner) entries) (summary_said (all_counts manner.pick entries) ∷ []) (entries_inside manner entries)
+      (summary_inside (all_counts manner.pick entries), tt),
 )
 
--- ---- the reports of several files
+-- ---- reports that were begun
+
+-- Item k is known, and its report has the line.
+pub record IsToldBy {X : Type 0} (said : X → List (List ℕ)) (Known : X → Type 0) (items : List X) (k : ℕ) (line : List ℕ) : Type 0 where
+  pub item : X
+  pub kth : slice_get items k ≡ Some item
+  pub known : Known item
+  pub has : Contains (said item) line
+
+-- Reports of items, each of which is a section: those of which enough is known have whole lines.
+module _ {X : Type 0} (report : X → List ℕ) (said : X → List (List ℕ)) (Known : X → Type 0) (is_report : (item : X) → as_lines (said item) ≡ report item)
+    (whole : (item : X) → Known item → AllByRecursion IsOneLine (said item)) (section_is : (item : X) → IsSection (said item)) where
+  are_lines : (items : List X) → as_lines (flat_map said items) ≡ flat_map report items
+  are_lines [] = refl
+  are_lines (item ∷ items) =
+      lines_behind (said item) (flat_map said items)
+      ∙ ap (λ (l : List ℕ). l ++ as_lines (flat_map said items)) (is_report item)
+      ∙ ap (λ (l : List ℕ). report item ++ l) (are_lines items)
+
+  are_one_line : (items : List X) → AllByRecursion Known items → AllByRecursion IsOneLine (flat_map said items)
+  are_one_line [] known = tt
+  are_one_line (item ∷ items) known = all_behind IsOneLine (said item) (flat_map said items) (whole item known.0) (are_one_line items known.1)
+
+  are_sections : (items : List X) → AllByRecursion (λ item. IsSection (said item)) items
+  are_sections [] = tt
+  are_sections (item ∷ items) = (section_is item, are_sections items)
+
+  -- A line of section k of what was appended is one of the report of item k.
+  pub section_told : (items : List X) (count : ℕ) (old new : Option (List ℕ)) (text : List ℕ) (k : ℕ) (line : List ℕ) → AllByRecursion Known (take count items)
+      → AppendsFront old new (flat_map report (take count items)) → WasAppended old new text → Contains (section k text) line → IsToldBy said Known items k line
+  section_told items count old new text k line each appends appended has =
+      let reported = take count items in
+      let lines = flat_map said reported in
+      let (front, is_front, adds) = appends in
+      let same : front ≡ text = same_appended old new front appended.before text adds appended.was appended.is in
+      let all : IsFront text (as_lines lines) = subst (λ (t : List ℕ). IsFront t (as_lines lines)) same (subst (IsFront front) (sym (are_lines reported)) is_front) in
+      let first = front_of_lines text lines (are_one_line reported each) all in
+      let there = section_of_front said reported first.0 k line (are_sections reported)
+      (subst (λ (lines : List (List ℕ)). Contains (slice_index_or (sections_of lines) k []) line) first.1 has) in
+      record {
+        item = there.item;
+        kth = taken_at count items k there.item there.kth;
+        known = held_at Known reported k there.item each there.kth;
+        has = there.has;
+      }
+
+-- ---- the reports of several files, each alone
 
 abbrev pub said_of : Manner → List ℕ × List ℕ → List (List ℕ)
-said_of manner (name, bytes) = report_said name manner bytes
+said_of manner (name, bytes) = report_said name manner (entries_of bytes)
 
-abbrev KnownFiles : List (List ℕ × List ℕ) → Type 0
-KnownFiles files = AllByRecursion (λ file. IsReportable file.1) files
-
-are_lines : (manner : Manner) (files : List (List ℕ × List ℕ)) → as_lines (flat_map (said_of manner) files) ≡ flat_map (report_of manner) files
-are_lines manner [] = refl
-are_lines manner ((name, bytes) ∷ files) =
-    lines_behind (report_said name manner bytes) (flat_map (said_of manner) files)
-    ∙ ap (λ (l : List ℕ). l ++ as_lines (flat_map (said_of manner) files)) (report_is_lines name manner bytes)
-    ∙ ap (λ (l : List ℕ). check_text name manner bytes ++ l) (are_lines manner files)
-
-are_one_line : (manner : Manner) (files : List (List ℕ × List ℕ)) → KnownFiles files → AllByRecursion IsOneLine (flat_map (said_of manner) files)
-are_one_line manner [] known = tt
-are_one_line manner ((name, bytes) ∷ files) known =
-    all_behind IsOneLine (report_said name manner bytes) (flat_map (said_of manner) files) (report_one_line name manner bytes known.0.runnable) (are_one_line manner files known.1)
-
-are_sections : (manner : Manner) (files : List (List ℕ × List ℕ)) → AllByRecursion (λ file. IsSection (said_of manner file)) files
-are_sections manner [] = tt
-are_sections manner ((name, bytes) ∷ files) = (report_is_section name manner bytes, are_sections manner files)
-
--- ---- a line of a section
+whole_of : (manner : Manner) (file : List ℕ × List ℕ) → IsReportable file.1 → AllByRecursion IsOneLine (said_of manner file)
+whole_of manner (name, bytes) known =
+    subst (λ (entries : List MethodEntry). AllByRecursion IsOneLine (report_said name manner entries)) (entries_alone bytes)
+    (report_one_line name manner (scope_of bytes) (subst CanRun (sym (entries_alone bytes)) known.runnable))
 
 -- File k can be reported, and its report has the line.
-pub record IsToldOf (manner : Manner) (files : List (List ℕ × List ℕ)) (k : ℕ) (line : List ℕ) : Type 0 where
-  pub file : List ℕ × List ℕ
-  pub kth : slice_get files k ≡ Some file
-  pub known : IsReportable file.1
-  pub has : Contains (said_of manner file) line
+abbrev pub IsToldOf : Manner → List (List ℕ × List ℕ) → ℕ → List ℕ → Type 0
+IsToldOf manner files k line = IsToldBy (said_of manner) (λ file. IsReportable file.1) files k line
 
 -- A line of section k of what was appended is one of the report of file k.
 pub begun_section : (manner : Manner) (files : List (List ℕ × List ℕ)) (old new : Option (List ℕ)) (text : List ℕ) (k : ℕ) (line : List ℕ) → AreBegun manner files old new
     → WasAppended old new text → Contains (section k text) line → IsToldOf manner files k line
 begun_section manner files old new text k line begun appended has =
-    let reported = take begun.count files in
-    let said = flat_map (said_of manner) reported in
-    let (front, is_front, adds) = begun.front in
-    let same : front ≡ text = same_appended old new front appended.before text adds appended.was appended.is in
-    let whole : IsFront text (as_lines said) = subst (λ (t : List ℕ). IsFront t (as_lines said)) same (subst (IsFront front) (sym (are_lines manner reported)) is_front) in
-    let first = front_of_lines text said (are_one_line manner reported begun.each) whole in
-    let there = section_of_front (said_of manner) reported first.0 k line (are_sections manner reported)
-    (subst (λ (lines : List (List ℕ)). Contains (slice_index_or (sections_of lines) k []) line) first.1 has) in
-    record {
-      file = there.item;
-      kth = taken_at begun.count files k there.item there.kth;
-      known = held_at (λ file. IsReportable file.1) reported k there.item begun.each there.kth;
-      has = there.has;
-    }
+    section_told (report_of manner) (said_of manner) (λ (file : List ℕ × List ℕ). IsReportable file.1) (λ (file : List ℕ × List ℕ). report_is_lines file.0 manner (entries_of file.1))
+    (whole_of manner) (λ (file : List ℕ × List ℕ). report_is_section file.0 manner (entries_of file.1)) files begun.count old new text k line begun.each begun.front appended has

@@ -10,7 +10,8 @@ use Rattle.invariant_checker.specs.Counts.{all_proved}
 use Rattle.invariant_checker.specs.declared.verdict.Verdict.{Verdict}
 use Rattle.method_unit.specs.Units.{IsUnit}
 use Rattle.pe_reader.specs.Addresses.{metadata}
-use Rattle.unit_builder.specs.Outcomes.{IfAnalysed, entry_of, outcome_of}
+use Rattle.unit_builder.specs.Outcomes.{IfAnalysed, entry_in, outcome_in}
+use Rattle.unit_builder.specs.Scopes.{Scope}
 use Rattle.unit_builder.specs.declared.entry.Outcome.{Outcome}
 use Rattle.unit_builder.specs.declared.entry.Outcome.TheVariants.{Analysed, Skipped}
 use Rattle.answer_lines.specs.FaultKinds.{kind_text}
@@ -84,19 +85,19 @@ all_behind P [] b all others = others
 all_behind P (x ∷ a) b all others = (all.0, all_behind P a b all.1 others)
 
 -- The lines of the methods of some rows.
-pub rows_one_line : (asm : List ℕ) (manner : Manner) (rows : List ℕ)
-    → AllByRecursion (λ entry. IfAnalysed entry.outcome IsUnit) (map (entry_of asm) (map (method_row (metadata asm)) rows))
-    → AllByRecursion IsOneLine (flat_map (entry_said manner) (map (entry_of asm) (map (method_row (metadata asm)) rows)))
+pub rows_one_line : (scope : Scope) (manner : Manner) (rows : List ℕ)
+    → AllByRecursion (λ entry. IfAnalysed entry.outcome IsUnit) (map (entry_in scope) (map (method_row (metadata scope.asm)) rows))
+    → AllByRecursion IsOneLine (flat_map (entry_said manner) (map (entry_in scope) (map (method_row (metadata scope.asm)) rows)))
 unfolding entry_said finding_said shown_said method_row
-rows_one_line asm manner [] runnable = tt
-rows_one_line asm manner (row ∷ rows) runnable =
-    let method = method_row (metadata asm) row in
-    let found = outcome_finding manner.pick (outcome_of asm method) in
+rows_one_line scope manner [] runnable = tt
+rows_one_line scope manner (row ∷ rows) runnable =
+    let method = method_row (metadata scope.asm) row in
+    let found = outcome_finding manner.pick (outcome_in scope method) in
     let text = verdict_text found in
-    let first = one_line (method_said method.token.0 method.name text) (none_in_method method.token.0 method.name text (none_in_printed (metadata asm) row) (none_in_outcome manner.pick (outcome_of asm method))) in
-    let own = all_behind IsOneLine (method_said method.token.0 method.name text ∷ verdicts_said found) (shown_said manner (outcome_of asm method))
-    (first, said_one_line manner.pick (outcome_of asm method) runnable.0) (lines_one_line (outcome_shown manner (outcome_of asm method))) in
-    all_behind IsOneLine (entry_said manner (entry_of asm method)) (flat_map (entry_said manner) (map (entry_of asm) (map (method_row (metadata asm)) rows))) own (rows_one_line asm manner rows runnable.1)
+    let first = one_line (method_said method.token.0 method.name text) (none_in_method method.token.0 method.name text (none_in_printed (metadata scope.asm) row) (none_in_outcome manner.pick (outcome_in scope method))) in
+    let own = all_behind IsOneLine (method_said method.token.0 method.name text ∷ verdicts_said found) (shown_said manner (outcome_in scope method))
+    (first, said_one_line manner.pick (outcome_in scope method) runnable.0) (lines_one_line (outcome_shown manner (outcome_in scope method))) in
+    all_behind IsOneLine (entry_said manner (entry_in scope method)) (flat_map (entry_said manner) (map (entry_in scope) (map (method_row (metadata scope.asm)) rows))) own (rows_one_line scope manner rows runnable.1)
 
 pub summary_one_line : (n : Counts) → IsOneLine (summary_said n)
 summary_one_line n = one_line (summary_said n) (none_in_summary n)

@@ -26,7 +26,7 @@ cut_same whole bytes limit is cut accepted =
           absurd (let both = sym accepted ∙ large in cc)
     ]
 
-content_same : (under : Option (List ℕ)) (bytes held : List ℕ) → under ≡ Some held → IsContent under bytes → FirstBroken bytes ≡ None → bytes ≡ held
+pub content_same : (under : Option (List ℕ)) (bytes held : List ℕ) → under ≡ Some held → IsContent under bytes → FirstBroken bytes ≡ None → bytes ≡ held
 content_same under bytes held is (inl whole) accepted = same_Some bytes held (sym whole ∙ is)
 content_same (Some whole) bytes held is (inr cut) accepted =
     cut_same whole bytes READ_LIMIT refl (same_Some (take READ_LIMIT whole) bytes cut) accepted ∙ same_Some whole held is
@@ -87,6 +87,7 @@ pub held_checked : (told : Option Held) (command : Command) (words : List (List 
     → AreUnder told (words_at words (file_indexes command)) met → AreContents met read → ReadBegun words read old new command → HeldBegun told words old new command
 held_checked told (commands.Check check) words met read old new under contents (manner, begun) =
     held_begun told manner (words_at words (check_files check)) met read old new under contents begun
+held_checked told (commands.Linked linked) words met read old new under contents begun = tt
 held_checked told (commands.Verify file proof) words met read old new under contents (manner, begun) =
     verified_begun told (word_at words file) (word_at words proof) met read manner old new under contents begun
 held_checked told (commands.Unit file) words met read old new under contents begun = tt
@@ -102,6 +103,7 @@ nothing_begun told names old = λ held told_is. (limit_manner false, begun_none 
 -- None was begun where nothing was written.
 pub none_begun : (told : Option Held) (command : Command) (words : List (List ℕ)) (old : Option (List ℕ)) → HeldBegun told words old old command
 none_begun told (commands.Check check) words old = nothing_begun told (words_at words (check_files check)) old
+none_begun told (commands.Linked linked) words old = tt
 none_begun told (commands.Verify file proof) words old = nothing_begun told (words_at words (file ∷ [])) old
 none_begun told (commands.Unit file) words old = tt
 none_begun told (commands.List file) words old = tt

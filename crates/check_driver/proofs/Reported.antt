@@ -1,14 +1,13 @@
--- The report of an assembly is lines, and the lines that begin with `method` are those of its methods.
+-- The report of a file is lines, and the lines that begin with `method` are those of its methods.
 use Rattle.std.proofs.Common.{◌≡◌, ℕ, List, [], ◌∷◌, ◌++◌, map, refl, sym, ap, ◌∙◌, append_assoc, append-nil, codes}
 use Rattle.std.specs.List.{flat_map}
 use Rattle.cc_base.specs.Digits.{hex}
 use Rattle.cc_base.specs.Escapes.{escaped}
 use Rattle.invariant_checker.specs.declared.verdict.Verdict.{Verdict}
 use Rattle.cil_model.specs.declared.unit.CalleeInfo.{CalleeInfo}
-use Rattle.unit_builder.specs.Outcomes.{entries_of}
 use Rattle.unit_builder.specs.declared.entry.MethodEntry.{MethodEntry}
 use Rattle.unit_builder.specs.declared.entry.Outcome.{Outcome}
-use Rattle.check_driver.specs.CheckText.{Finding, WithVerdicts, NotAnalysed, all_counts, assembly_line, check_text, entry_lines, outcome_finding, finding_lines, method_line, outcome_shown, report_text, verdict_lines, verdict_text}
+use Rattle.check_driver.specs.CheckText.{Finding, WithVerdicts, NotAnalysed, all_counts, assembly_line, entry_lines, outcome_finding, finding_lines, method_line, outcome_shown, report_text, verdict_lines, verdict_text}
 use Rattle.answer_lines.specs.FaultKinds.{kind_text}
 use Rattle.answer_lines.specs.Lines.{summary_line}
 use Rattle.check_driver.specs.ReportText.{callee_of, verdict_line}
@@ -41,9 +40,9 @@ shown_said manner outcome = lines_of (outcome_shown manner outcome)
 unfoldable pub entry_said : Manner → MethodEntry → List (List ℕ)
 entry_said manner entry = finding_said entry.token.0 entry.name (outcome_finding manner.pick entry.outcome) ++ shown_said manner entry.outcome
 
-unfoldable pub report_said : List ℕ → Manner → List ℕ → List (List ℕ)
-report_said name manner bytes =
-    (codes "assembly " ++ escaped name) ∷ (flat_map (entry_said manner) (entries_of bytes) ++ summary_said (all_counts manner.pick (entries_of bytes)) ∷ [])
+unfoldable pub report_said : List ℕ → Manner → List MethodEntry → List (List ℕ)
+report_said name manner entries =
+    (codes "assembly " ++ escaped name) ∷ (flat_map (entry_said manner) entries ++ summary_said (all_counts manner.pick entries) ∷ [])
 
 -- ---- lines of lists
 
@@ -90,10 +89,9 @@ lines_and_last : (before : List (List ℕ)) (last line text : List ℕ) → as_l
 lines_and_last before last line text is_line are_lines =
     lines_behind before (last ∷ []) ∙ ap (λ (l : List ℕ). as_lines before ++ l) (append-nil (as_line last)) ∙ rw (is_line, are_lines) refl
 
-pub report_is_lines : (name : List ℕ) (manner : Manner) (bytes : List ℕ) → as_lines (report_said name manner bytes) ≡ check_text name manner bytes
+pub report_is_lines : (name : List ℕ) (manner : Manner) (entries : List MethodEntry) → as_lines (report_said name manner entries) ≡ report_text name manner entries
 unfolding report_said report_text
-report_is_lines name manner bytes =
-    let entries = entries_of bytes in
+report_is_lines name manner entries =
     let counts = all_counts manner.pick entries in
     ap (λ (l : List ℕ). assembly_line name ++ l) (lines_and_last (flat_map (entry_said manner) entries) (summary_said counts) (summary_line counts) (flat_map (entry_lines manner) entries) (summary_ends counts) (entries_are_lines manner entries))
     ∙ sym (append_assoc (assembly_line name) (flat_map (entry_lines manner) entries) (summary_line counts))

@@ -46,7 +46,7 @@ gives_nothing o e p q f g =
 abbrev pub answer_then : List ℕ → ℕ → Answer → Answer
 answer_then text status others = record { out = text ++ others.out; err = others.err; status = max status others.status }
 
-cannot_write : {X Y : Type 0} (i : Interrupt) → IsErrOf {T = X} (Err i) interrupts.CannotWrite → IsErrOf {T = Y} (Err i) interrupts.CannotWrite
+pub cannot_write : {X Y : Type 0} (i : Interrupt) → IsErrOf {T = X} (Err i) interrupts.CannotWrite → IsErrOf {T = Y} (Err i) interrupts.CannotWrite
 cannot_write interrupts.CannotWrite is = refl
 cannot_write interrupts.NoMemory is = absurd cc
 
@@ -152,7 +152,7 @@ no_answer manner words (index ∷ indexes) files none = absurd (omega (arith, no
 abbrev pub rest_of : {X : Type 0} → List X → List X
 rest_of all = take (length all - 1) (drop 1 all)
 
-parts_of : {X : Type 0} (all : List X) (first d : X) → 1 ≤ length all → get_or all 0 d ≡ first → all ≡ first ∷ rest_of all
+pub parts_of : {X : Type 0} (all : List X) (first d : X) → 1 ≤ length all → get_or all 0 d ≡ first → all ≡ first ∷ rest_of all
 parts_of [] first d some is = absurd (omega (arith, some))
 parts_of {X} (x ∷ rest) first d some is =
     let many : length rest ≡ length (x ∷ rest) - 1 = omega arith in

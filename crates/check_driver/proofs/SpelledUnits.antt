@@ -54,6 +54,7 @@ pub held_spelled : (files : Option Held) (command : Command) (words : List (List
 held_spelled files command words met read same under contents (inl is) = inl is
 held_spelled files (commands.Unit file) words met read same under contents (inr known) = inr (one_spelled files (word_at words file) met read under contents known)
 held_spelled files (commands.Check check) words met read same under contents (inr known) = inr tt
+held_spelled files (commands.Linked linked) words met read same under contents (inr known) = inr tt
 held_spelled files (commands.Verify file proof) words met read same under contents (inr known) = inr tt
 held_spelled files (commands.List file) words met read same under contents (inr known) = inr tt
 held_spelled files (commands.Il file method) words met read same under contents (inr known) = inr tt

@@ -1,18 +1,18 @@
 -- No answer has a status that tells an interruption, and only words that are no command are answered by the usage.
-use Rattle.std.proofs.Common.{◌≡◌, ◌≢◌, ◌⊎◌, ℕ, ◌<◌, max, Bool, true, false, List, [], ◌∷◌, Option, Some, None, Result, Ok, Err, if◌then◌else◌, nat_le, length, refl, sym, subst, ◌∙◌, inl, inr, arith}
+use Rattle.std.proofs.Common.{◌≡◌, ◌≢◌, ◌⊎◌, ℕ, ◌<◌, max, Bool, true, false, List, [], ◌∷◌, Option, Some, None, Result, Ok, Err, if◌then◌else◌, nat_le, length, zip, refl, sym, subst, ◌∙◌, inl, inr, arith}
 use Rattle.std.specs.Prelude.{IfOk}
 use Rattle.std.proofs.lemmas.Bool.{cases_lt}
 use Rattle.asm_image.specs.Faults.{FirstBroken}
 use Rattle.asm_image.specs.declared.fault.AsmFault.{AsmFault}
 use Rattle.cc_base.specs.Files.{READ_LIMIT}
-use Rattle.command_words.specs.Words.{args_told, check_files, command_of, file_indexes, word_at, words_at}
+use Rattle.command_words.specs.Words.{args_told, check_files, command_of, file_indexes, linked_files, word_at, words_at}
 use Rattle.command_words.specs.declared.command.Command.{Command}
 use Rattle.command_words.specs.declared.command.Command.TheVariants as commands
 use Rattle.method_unit.specs.UnitFile.{first_unit_fault, unit_of}
 use Rattle.method_unit.specs.declared.unit_fault.UnitFault.{UnitFault}
 use Rattle.written_assemblies.specs.GeneratedFiles.{generated_file}
 use Rattle.invariant_checker.specs.Counts.{all_proved}
-use Rattle.answer_lines.specs.Answers.{Answer}
+use Rattle.answer_lines.specs.Answers.{Answer, output_answer}
 use Rattle.answer_lines.specs.Outcome.{GivesOrFails, status_of}
 use Rattle.answer_lines.specs.Writing.{Change}
 use Rattle.answer_lines.specs.declared.interrupt.Interrupt.{Interrupt}
@@ -24,7 +24,9 @@ use Rattle.check_driver.specs.CheckText.{all_methods_proved}
 use Rattle.check_driver.specs.FilesLeft.{GivesOrUnreplaced}
 use Rattle.check_driver.specs.CacheMet.{CallMet}
 use Rattle.check_driver.specs.Expected.{bytes_answer, check_answer, check_manner, checked_before, command_answer, expected, file_at, missing_or, unit_answer, unit_file_answer, verify_answer}
+use Rattle.check_driver.specs.LinkedReports.{RefusedFile, are_all_proved, file_reports, first_refused, linked_answer, refused_or}
 use Rattle.check_driver.specs.Met.{contents, first_missing}
+use Rattle.unit_builder.specs.Linked.{linked_entries}
 use Rattle.check_driver.proofs.CallLeft.{AnswersPlainly}
 use Rattle.proof_files.specs.Reading.{ProofRead, Refused, Whole}
 use Rattle.unit_verdicts.specs.Picks.{Manner, limit_pick, pick_from}
@@ -66,6 +68,17 @@ of_check manner (name ∷ names) [] = of_few 0 (omega arith)
 of_check manner (name ∷ names) (bytes ∷ files) =
     of_checked name manner bytes (FirstBroken bytes) (check_answer manner names files) (of_check manner names files)
 
+of_unrefused : (names : List (List ℕ)) (refused : Option RefusedFile) (answer : Answer) → IsOfBytes answer.status → IsOfBytes (refused_or names refused answer).status
+of_unrefused names (Some refused) answer of = of_refused
+of_unrefused names None answer of = of
+
+pub of_linked : (manner : Manner) (names files : List (List ℕ)) → IsOfBytes (linked_answer manner names files).status
+unfolding linked_answer
+of_linked manner names files =
+    let reported = zip names (linked_entries files) in
+    let proved = are_all_proved manner.pick reported in
+    of_unrefused names (first_refused files) (output_answer (if proved then 0 else 1) (file_reports manner reported)) (of_report proved)
+
 -- A status of an answer to what was read, or that of memory that ran out before a proof file was read.
 abbrev IsOfRead : ℕ → Type 0
 IsOfRead status = IsOfBytes status ⊎ (status ≡ 7)
@@ -81,6 +94,7 @@ of_bytes (commands.Unit file) words cache read files = inl (of_unit_file (word_a
 of_bytes (commands.List file) words cache read files = inl (of_list (word_at words file) (file_at files 0) (FirstBroken (file_at files 0)))
 of_bytes (commands.Il file method) words cache read files = inl (of_il (word_at words file) (word_at words method) (file_at files 0) (FirstBroken (file_at files 0)))
 of_bytes (commands.Check check) words cache read files = inl (of_check (check_manner check cache) (words_at words (check_files check)) files)
+of_bytes (commands.Linked linked) words cache read files = inl (of_linked (check_manner linked.check cache) (words_at words (linked_files linked)) files)
 of_bytes (commands.Verify file proof) words cache read files = of_verify (word_at words file) (word_at words proof) (file_at files 0) read (FirstBroken (file_at files 0))
 of_bytes (commands.Run run) words cache read files =
     inl (of_run_file (word_at words run.file) (word_at words run.method) (args_told run words) run.steps (file_at files 0) (FirstBroken (file_at files 0)))

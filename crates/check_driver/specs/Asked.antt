@@ -6,6 +6,7 @@ use Rattle.asm_image.specs.declared.fault.AsmFault.{AsmFault}
 use Rattle.cc_base.specs.Files.{READ_LIMIT}
 use Rattle.method_unit.specs.UnitFile.{first_unit_fault, unit_of}
 use Rattle.method_unit.specs.declared.unit_fault.UnitFault.{UnitFault}
+use Rattle.unit_builder.specs.Linked.{linked_entries}
 use Rattle.unit_builder.specs.Outcomes.{entries_of}
 use Rattle.unit_builder.specs.declared.entry.MethodEntry.{MethodEntry}
 use Rattle.unit_builder.specs.declared.entry.Outcome.{Outcome}
@@ -15,6 +16,7 @@ use Rattle.answer_lines.specs.declared.interrupt.Interrupt.{Interrupt}
 use Rattle.check_driver.specs.Expected.{file_at}
 use Rattle.check_driver.specs.Met.{contents, first_missing}
 use Rattle.check_driver.specs.CacheMet.{CallMet, cache_entries}
+use Rattle.check_driver.specs.LinkedReports.{RefusedFile, first_refused}
 use Rattle.result_cache.specs.Entries.{Entry}
 use Rattle.unit_verdicts.specs.Asked.{AsksFront, asked_from, distinct, unseen, without_entry}
 use Rattle.unit_verdicts.specs.VerdictCache.{CachedUnits}
@@ -55,6 +57,19 @@ check_keys (bytes ∷ files) = keys_before bytes (FirstBroken bytes) (check_keys
 abbrev pub check_asked : List Entry → List (List ℕ) → List (List ℕ)
 check_asked entries files = without_entry entries (distinct (check_keys files))
 
+-- The units of linked files where one is refused, or where none is.
+abbrev pub keys_unless : Option RefusedFile → List (List ℕ) → List (List ℕ)
+keys_unless (Some refused) keys = []
+keys_unless None keys = keys
+
+-- The units that are judged for the reports of linked files with these bytes, in order.
+unfoldable pub linked_keys : List (List ℕ) → List (List ℕ)
+linked_keys files = keys_unless (first_refused files) (flat_map judged_keys (linked_entries files))
+
+-- The units for which a finder is asked for these reports, where a cache has these entries: each once.
+abbrev pub linked_asked : List Entry → List (List ℕ) → List (List ℕ)
+linked_asked entries files = without_entry entries (distinct (linked_keys files))
+
 -- For the report of a unit whose file has this first fault, or none.
 abbrev pub unit_asked : List ℕ → Option UnitFault → List (List ℕ)
 unit_asked bytes (Some fault) = []
@@ -94,6 +109,7 @@ asked_for cache keys = asked_from cache.held (unseen cache.keys keys)
 abbrev pub bytes_asked : Command → Option (List ℕ) → List (List ℕ) → List (List ℕ)
 bytes_asked (commands.Unit file) cache files = unit_file_asked (file_at files 0)
 bytes_asked (commands.Check check) cache files = check_asked (cache_entries cache) files
+bytes_asked (commands.Linked linked) cache files = linked_asked (cache_entries cache) files
 bytes_asked (commands.Gen seed count) cache files = units_asked (generated_file seed count)
 bytes_asked (commands.Verify file proof) cache files = []
 bytes_asked (commands.List file) cache files = []

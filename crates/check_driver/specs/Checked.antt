@@ -6,7 +6,6 @@ use Rattle.asm_image.specs.declared.method_row.MethodRow.{MethodRow}
 use Rattle.cc_base.specs.Files.{Held}
 use Rattle.cc_base.specs.Sink.{AppendsFront}
 use Rattle.check_driver.specs.CheckText.{check_text}
-use Rattle.command_words.specs.declared.check_words.CheckWords.{CheckWords}
 use Rattle.command_words.specs.declared.command.Command.{Command}
 use Rattle.command_words.specs.declared.command.Command.TheVariants as commands
 use Rattle.cil_model.specs.declared.unit.Unit.{Unit as MethodUnit}
@@ -57,8 +56,3 @@ abbrev pub IfReports : Command → Type 0 → Type 0
 IfReports (commands.Check check) P = P
 IfReports (commands.Verify file proof) P = P
 IfReports _ P = Unit {0}
-
--- This holds of the words of a check, where the command is one.
-abbrev pub IfCheck : Command → (CheckWords → Type 0) → Type 0
-IfCheck (commands.Check check) P = P check
-IfCheck _ P = Unit {0}

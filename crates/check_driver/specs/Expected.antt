@@ -15,10 +15,11 @@ use Rattle.check_driver.specs.CheckText.{all_methods_proved, check_text, summary
 use Rattle.assembly_answers.specs.Answers.{il_answer, list_answer, refute_file_answer, run_file_answer}
 use Rattle.assembly_answers.specs.FaultText.{unit_fault_text, assembly_fault_text}
 use Rattle.check_driver.specs.CacheMet.{CallMet, cache_entries, cache_refusal, command_cache}
+use Rattle.check_driver.specs.LinkedReports.{linked_answer}
 use Rattle.check_driver.specs.Met.{first_missing, contents}
 use Rattle.check_driver.specs.ProofText.{proof_fault_at, proof_fault_text}
 use Rattle.check_driver.specs.ReportText.{unit_report, unit_verdicts}
-use Rattle.command_words.specs.Words.{args_told, check_files, command_of, file_indexes, word_at, words_at}
+use Rattle.command_words.specs.Words.{args_told, check_files, command_of, file_indexes, linked_files, word_at, words_at}
 use Rattle.command_words.specs.declared.check_words.CheckWords.{CheckWords}
 use Rattle.command_words.specs.declared.command.Command.{Command}
 use Rattle.command_words.specs.declared.command.Command.TheVariants as commands
@@ -104,6 +105,9 @@ bytes_answer (commands.Il file method) words cache read files =
 bytes_answer (commands.Check check) words cache read files =
     after_line (cache_refusal (command_cache words (commands.Check check)) cache)
     (check_answer (check_manner check cache) (words_at words (check_files check)) files)
+bytes_answer (commands.Linked linked) words cache read files =
+    after_line (cache_refusal (command_cache words (commands.Linked linked)) cache)
+    (linked_answer (check_manner linked.check cache) (words_at words (linked_files linked)) files)
 bytes_answer (commands.Verify file proof) words cache read files =
     verify_answer (word_at words file) (word_at words proof) read (file_at files 0) (FirstBroken (file_at files 0))
 bytes_answer (commands.Run run) words cache read files =

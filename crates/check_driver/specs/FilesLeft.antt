@@ -7,7 +7,7 @@ use Rattle.answer_lines.specs.Answers.{Answer}
 use Rattle.answer_lines.specs.Outcome.{GivesOrFails, WritesAll}
 use Rattle.answer_lines.specs.Writing.{Change}
 use Rattle.answer_lines.specs.declared.interrupt.Interrupt.{Interrupt}
-use Rattle.check_driver.specs.Asked.{check_keys}
+use Rattle.check_driver.specs.Asked.{check_keys, linked_keys}
 use Rattle.check_driver.specs.CacheMet.{CallMet, cache_entries, command_cache, command_proof}
 use Rattle.check_driver.specs.Met.{contents, first_missing}
 use Rattle.command_words.specs.Words.{command_of, file_indexes, words_at}
@@ -50,10 +50,17 @@ check_left words command cache files =
     left_where (are_accepted files) (command_proof words command) (command_cache words command)
     (OfCache (cache_entries cache)) (distinct (check_keys files))
 
+-- The same of a check of linked files.
+abbrev pub linked_left : List (List ℕ) → Command → Option (List ℕ) → List (List ℕ) → List LeftFile
+linked_left words command cache files =
+    left_where (are_accepted files) (command_proof words command) (command_cache words command)
+    (OfCache (cache_entries cache)) (distinct (linked_keys files))
+
 -- The same for a command, what is met under the name of its cache, and the bytes of its files, in order. No other
 -- command leaves a file.
 abbrev pub bytes_left : Command → List (List ℕ) → Option (List ℕ) → List (List ℕ) → List LeftFile
 bytes_left (commands.Check check) words cache files = check_left words (commands.Check check) cache files
+bytes_left (commands.Linked linked) words cache files = linked_left words (commands.Linked linked) cache files
 bytes_left (commands.Verify file proof) words cache files = []
 bytes_left (commands.Unit file) words cache files = []
 bytes_left (commands.List file) words cache files = []

@@ -7,6 +7,8 @@ pub mod CallRead
 pub mod ReportText
 pub mod CheckText
 pub mod Findings
+pub mod LinkedReports
+pub mod LinkedReading
 pub mod Expected
 pub mod Asked
 pub mod FilesLeft
@@ -17,6 +19,7 @@ pub mod Checked
 pub mod Known
 pub mod Sections
 pub mod Headline
+pub mod LinkedHeadline
 pub mod ProvedUnit
 pub mod Refuted
 pub mod NothingOr

@@ -138,7 +138,7 @@ fn leaves_files(check: CheckWords) -> bool
 }
 
 /// The verdicts of a check, of which there are none yet: over its cache, if it has one. One that is refused is told.
-fn begin_check<E: Sink>(
+pub fn begin_check<E: Sink>(
     alloc: Global,
     check: CheckWords,
     given: &CallFiles<'_>,

@@ -1,19 +1,23 @@
 //! What is found of assemblies, and the reports of it.
 
-ghost use Rattle.std.specs.Prelude.{◌≡◌, ◌++◌, ◌<◌, ◌^◌, All, IfOk, OnOk, Some, if◌then◌else◌, length, map, slice_get, zip};
+ghost use Rattle.std.specs.Prelude.{◌≡◌, ◌++◌, ◌<◌, ◌^◌, ℕ, All, IfOk, None, OnOk, Some, if◌then◌else◌, length, map, slice_get, zip};
 ghost use Rattle.std.specs.List.{flat_map, list_all};
+ghost use Rattle.asm_image.specs.Faults.{FirstBroken};
 ghost use Rattle.asm_image.specs.Rows.{methods_of};
 ghost use Rattle.asm_image.specs.declared.method_row.MethodRow.{MethodRow};
 ghost use Rattle.check_driver.specs.Asked.{asked_for, judged_keys, outcome_key, units_asked, with_judged};
-ghost use Rattle.check_driver.specs.CheckText.{all_methods_proved, all_shown, assembly_line, check_text, findings, found_counts, is_proved, method_line, outcome_finding, outcome_shown, verdict_text};
+ghost use Rattle.check_driver.specs.CheckText.{all_methods_proved, all_shown, assembly_line, check_text, findings, found_counts, is_proved, method_line, outcome_finding, outcome_shown, report_text, verdict_text};
 ghost use Rattle.check_driver.specs.Checked.{AreRunnable, IsReportable};
 ghost use Rattle.answer_lines.specs.Counting.{AreBelow};
 ghost use Rattle.check_driver.specs.Findings.{IsWithin, finding_in, found_lines, shown_in};
+ghost use Rattle.check_driver.specs.LinkedReports.{CanRun, are_proved, entries_at};
 ghost use Rattle.assembly_answers.specs.ListText.{AreNamedPlainly};
 ghost use Rattle.answer_lines.specs.LineCounts.{AreLines, line_count};
 ghost use Rattle.answer_lines.specs.Writing.{joined};
 ghost use Rattle.method_unit.specs.Units.{IsUnit};
-ghost use Rattle.unit_builder.specs.Outcomes.{IfAnalysed, entries_of, outcome_of};
+ghost use Rattle.unit_builder.specs.Outcomes.{IfAnalysed, entries_of, outcome_in};
+ghost use Rattle.unit_builder.specs.FileSets.{FileSet, files_in};
+ghost use Rattle.unit_builder.specs.Scopes.{scope_in};
 ghost use Rattle.unit_verdicts.specs.Asked.{Asks};
 ghost use Rattle.unit_verdicts.specs.Picks.{Manner, limit_manner, limit_pick, pick_from};
 ghost use Rattle.unit_verdicts.specs.VerdictCache.{manner_of};
@@ -24,7 +28,7 @@ use answer_lines::{Counts, append_lines, summary_line};
 use asm_image::{Assembly, MethodRow};
 use cc_base::{append_escaped, put_hex};
 use std::alloc::{AllocError, Global};
-use unit_builder::Units;
+use unit_builder::FileUnits;
 use unit_verdicts::VerdictCache;
 use widening_engine::Finder;
 
@@ -79,33 +83,63 @@ fn append_findings(
     Ok(())
 }
 
-/// Returns what is found of the method of this index.
+/// Returns what is found of the method of this index in a file.
 fn find<D: Finder>(
     alloc: Global,
-    units: &mut Units<'_>,
+    units: &mut FileUnits<'_>,
+    file: u32,
     index: usize,
     cache: &mut VerdictCache,
     finder: &mut D,
 ) -> Result<Finding, AllocError>
-    requires there { index < length (methods_of units.old) }
+    requires file { file < (files_in units.old).count }
+    requires there { index < length (methods_of ((files_in units.old).bytes file)) }
     ensures same { units.new ≡ units.old }
-    ensures value { (method : MethodRow) → slice_get (methods_of units.old) index ≡ Some method → IfOk result (λ found. finding_in found ≡ outcome_finding (pick_from cache.old.held) (outcome_of units.old method)) }
-    ensures shown { (method : MethodRow) → slice_get (methods_of units.old) index ≡ Some method
-        → IfOk result (λ found. shown_in found ≡ outcome_shown (manner_of cache.old) (outcome_of units.old method)) }
+    ensures value { (method : MethodRow) → slice_get (methods_of ((files_in units.old).bytes file)) index ≡ Some method
+        → IfOk result (λ found. finding_in found ≡ outcome_finding (pick_from cache.old.held) (outcome_in (scope_in (files_in units.old) file) method)) }
+    ensures shown { (method : MethodRow) → slice_get (methods_of ((files_in units.old).bytes file)) index ≡ Some method
+        → IfOk result (λ found. shown_in found ≡ outcome_shown (manner_of cache.old) (outcome_in (scope_in (files_in units.old) file) method)) }
     ensures within { IfOk result IsWithin }
-    ensures runnable { (method : MethodRow) → slice_get (methods_of units.old) index ≡ Some method → IfOk result (λ _. IfAnalysed (outcome_of units.old method) IsUnit) }
-    ensures cache { (method : MethodRow) → slice_get (methods_of units.old) index ≡ Some method
-        → OnOk result (cache.new ≡ with_judged cache.old (outcome_key (outcome_of units.old method))) }
-    ensures asked { (method : MethodRow) → slice_get (methods_of units.old) index ≡ Some method
-        → Asks (asked_for cache.old (outcome_key (outcome_of units.old method))) result (D.asked finder.old) (D.asked finder.new) }
+    ensures runnable { (method : MethodRow) → slice_get (methods_of ((files_in units.old).bytes file)) index ≡ Some method
+        → IfOk result (λ _. IfAnalysed (outcome_in (scope_in (files_in units.old) file) method) IsUnit) }
+    ensures cache { (method : MethodRow) → slice_get (methods_of ((files_in units.old).bytes file)) index ≡ Some method
+        → OnOk result (cache.new ≡ with_judged cache.old (outcome_key (outcome_in (scope_in (files_in units.old) file) method))) }
+    ensures asked { (method : MethodRow) → slice_get (methods_of ((files_in units.old).bytes file)) index ≡ Some method
+        → Asks (asked_for cache.old (outcome_key (outcome_in (scope_in (files_in units.old) file) method))) result (D.asked finder.old) (D.asked finder.new) }
 {
-    let outcome = units.outcome(alloc, index)?;
+    let outcome = units.outcome(alloc, file, index)?;
     Finding::of(alloc, outcome, cache, finder)
 }
 
-/// Returns what is found of each method of an assembly, with the text of its invariant where that is shown. Of equal
-/// units one is judged, also among those that are in the cache.
-pub fn find_all<D: Finder>(
+/// Returns what is found of each method of a file, with the text of its invariant where that is shown. Of equal units one
+/// is judged, also among those that are in the cache.
+fn find_each<D: Finder>(
+    alloc: Global,
+    units: &mut FileUnits<'_>,
+    file: u32,
+    cache: &mut VerdictCache,
+    finder: &mut D,
+) -> Result<Vec<Finding>, AllocError>
+    requires { file < (files_in units.old).count }
+    ensures same { units.new ≡ units.old }
+    ensures value { IfOk result (λ found. map finding_in found.items ≡ findings (pick_from cache.old.held) (entries_at units.old file)) }
+    ensures shown { IfOk result (λ found. map shown_in found.items ≡ all_shown (manner_of cache.old) (entries_at units.old file)) }
+    ensures within { IfOk result (λ found. All IsWithin found.items) }
+    ensures few { IfOk result (λ found. length found.items < 2 ^ 32) }
+    ensures runnable { IfOk result (λ _. CanRun (entries_at units.old file)) }
+    ensures cache { OnOk result (cache.new ≡ with_judged cache.old (judged_keys (entries_at units.old file))) }
+    ensures asked { Asks (asked_for cache.old (judged_keys (entries_at units.old file))) result (D.asked finder.old) (D.asked finder.new) }
+{
+    let methods = units.methods(file);
+    let mut found = Vec::new(alloc);
+    for index in 0..methods.len() {
+        found.push(find(alloc, units, file, index, cache, finder)?)?;
+    }
+    Ok(found)
+}
+
+/// The same of an assembly alone.
+fn find_all<D: Finder>(
     alloc: Global,
     assembly: &Assembly<'_>,
     cache: &mut VerdictCache,
@@ -119,12 +153,8 @@ pub fn find_all<D: Finder>(
     ensures cache { OnOk result (cache.new ≡ with_judged cache.old (judged_keys (entries_of assembly.now))) }
     ensures asked { Asks (asked_for cache.old (judged_keys (entries_of assembly.now))) result (D.asked finder.old) (D.asked finder.new) }
 {
-    let mut units = Units::of(alloc, assembly)?;
-    let mut found = Vec::new(alloc);
-    for index in 0..assembly.methods().len() {
-        found.push(find(alloc, &mut units, index, cache, finder)?)?;
-    }
-    Ok(found)
+    let mut units = FileUnits::alone(alloc, assembly)?;
+    find_each(alloc, &mut units, 0, cache, finder)
 }
 
 /// The same of an assembly that is looked at alone, without a cache file.
@@ -183,26 +213,26 @@ fn assembly_line(alloc: Global, name: &[u8]) -> Result<Vec<u8>, AllocError>
     Ok(line)
 }
 
-/// The lines of the report of an assembly of which these are the findings, in whatever manner these were found.
-#[tactic(auto, using(crate::proofs::ReportLines::found_are_entries), unfolding(crate::specs::CheckText::report_text))]
-fn check_lines(
+/// The lines of the report of a file with these methods, of which these are the findings, in whatever manner these were
+/// found.
+fn file_lines(
     alloc: Global,
     name: &[u8],
-    assembly: &Assembly<'_>,
+    methods: &[MethodRow],
     found: &[Finding],
 ) -> Result<Vec<Vec<u8>>, AllocError>
     requires within { All IsWithin found.now }
     requires few { length found.now < 2 ^ 32 }
-    requires runnable { AreRunnable assembly.now }
-    ensures text { (manner : Manner) → map finding_in found.now ≡ findings manner.pick (entries_of assembly.now)
-        → map shown_in found.now ≡ all_shown manner (entries_of assembly.now)
-        → IfOk result (λ lines. joined lines.items ≡ check_text name.now manner assembly.now) }
+    requires names { AreNamedPlainly methods.now }
+    ensures text { (files : FileSet) (file : ℕ) (manner : Manner) → methods.now ≡ methods_of ((files_in files).bytes file)
+        → map finding_in found.now ≡ findings manner.pick (entries_at files file)
+        → map shown_in found.now ≡ all_shown manner (entries_at files file)
+        → IfOk result (λ lines. joined lines.items ≡ report_text name.now manner (entries_at files file)) }
     ensures lines { IfOk result (λ lines. AreLines lines.items) }
-    ensures reportable { IfOk result (λ _. IsReportable assembly.now) }
 {
     let mut lines = Vec::new(alloc);
     lines.push(assembly_line(alloc, name)?)?;
-    append_findings(alloc, &mut lines, assembly.methods(), found)?;
+    append_findings(alloc, &mut lines, methods, found)?;
     lines.push(summary_line(alloc, count(found))?)?;
     Ok(lines)
 }
@@ -216,7 +246,34 @@ pub struct ReportLines {
     pub status: u8,
 }
 
-/// Makes the report of an assembly whose file has this name.
+/// Makes the report of the file of this list index, which has this name.
+pub fn report_file<D: Finder>(
+    alloc: Global,
+    name: &[u8],
+    units: &mut FileUnits<'_>,
+    file: u32,
+    cache: &mut VerdictCache,
+    finder: &mut D,
+) -> Result<ReportLines, AllocError>
+    requires { file < (files_in units.old).count }
+    ensures same { units.new ≡ units.old }
+    ensures status { IfOk result (λ report. report.status ≡ (if are_proved (pick_from cache.old.held) (entries_at units.old file) then 0 else 1)) }
+    ensures text { IfOk result (λ report. joined report.lines.items ≡ report_text name.now (manner_of cache.old) (entries_at units.old file)) }
+    ensures lines { IfOk result (λ report. AreLines report.lines.items) }
+    ensures accepted { IfOk result (λ _. FirstBroken ((files_in units.old).bytes file) ≡ None) }
+    ensures runnable { IfOk result (λ _. CanRun (entries_at units.old file)) }
+    ensures cache { OnOk result (cache.new ≡ with_judged cache.old (judged_keys (entries_at units.old file))) }
+    ensures asked { Asks (asked_for cache.old (judged_keys (entries_at units.old file))) result (D.asked finder.old) (D.asked finder.new) }
+{
+    let found = find_each(alloc, units, file, cache, finder)?;
+    let lines = file_lines(alloc, name, units.methods(file), &found)?;
+    Ok(ReportLines {
+        lines,
+        status: status_of(&found),
+    })
+}
+
+/// Makes the report of an assembly alone, whose file has this name.
 pub fn report_lines<D: Finder>(
     alloc: Global,
     name: &[u8],
@@ -231,12 +288,8 @@ pub fn report_lines<D: Finder>(
     ensures cache { OnOk result (cache.new ≡ with_judged cache.old (judged_keys (entries_of assembly.now))) }
     ensures asked { Asks (asked_for cache.old (judged_keys (entries_of assembly.now))) result (D.asked finder.old) (D.asked finder.new) }
 {
-    let found = find_all(alloc, assembly, cache, finder)?;
-    let lines = check_lines(alloc, name, assembly, &found)?;
-    Ok(ReportLines {
-        lines,
-        status: status_of(&found),
-    })
+    let mut units = FileUnits::alone(alloc, assembly)?;
+    report_file(alloc, name, &mut units, 0, cache, finder)
 }
 
 /// The text of lines, one after another.
@@ -265,6 +318,6 @@ pub fn report<D: Finder>(
     ensures asked { Asks (units_asked assembly.now) result (D.asked finder.old) (D.asked finder.new) }
 {
     let found = find_alone(alloc, assembly, show, finder)?;
-    let lines = check_lines(alloc, name.as_bytes(), assembly, &found)?;
+    let lines = file_lines(alloc, name.as_bytes(), assembly.methods(), &found)?;
     text_of(alloc, &lines)
 }

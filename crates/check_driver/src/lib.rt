@@ -8,6 +8,7 @@ mod finding;
 mod gen_answer;
 mod inputs;
 mod left_files;
+mod linked_answer;
 mod open_cache;
 mod program;
 mod proof_fault;

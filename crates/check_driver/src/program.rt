@@ -2,7 +2,7 @@
 
 #![tactic(auto, using(cc_base::proofs::SinkLemmas::sinks, cc_base::proofs::CountLemmas::counts, answer_lines::proofs::LineLemmas::puts_none))]
 
-ghost use Rattle.std.specs.Prelude.{◌≡◌, ◌≢◌, ◌⊎◌, ◌++◌, ◌<◌, ◌≤◌, All, Contains, List, ℕ, length, option_to_list, Option, Some, IfOk, IfSome, None, zip};
+ghost use Rattle.std.specs.Prelude.{◌≡◌, ◌≢◌, ◌⊎◌, ◌++◌, ◌<◌, ◌≤◌, All, Contains, List, ℕ, length, option_to_list, Option, Some, IfOk, IfSome, None, slice_get, zip};
 ghost use Rattle.asm_image.specs.Faults.{FirstBroken};
 ghost use Rattle.asm_image.specs.Rows.{methods_of};
 ghost use Rattle.asm_image.specs.declared.method_row.MethodRow.{MethodRow};
@@ -15,7 +15,7 @@ ghost use Rattle.cil_model.specs.Runs.{Safe};
 ghost use Rattle.check_driver.specs.BytesAnswered.{AnswersBytes};
 ghost use Rattle.check_driver.specs.CacheMet.{CallMet, IsMet, cache_entries, command_cache, command_proof, met_of};
 ghost use Rattle.check_driver.specs.CallRead.{IsCalled, cache_of, files_of};
-ghost use Rattle.check_driver.specs.Checked.{AreBegun, AreHeldBegun, IfCheck, IfReports, IsSafeMethod};
+ghost use Rattle.check_driver.specs.Checked.{AreBegun, AreHeldBegun, IfReports, IsSafeMethod};
 ghost use Rattle.check_driver.specs.Confirmed.{AsksToConfirm, plain_report};
 ghost use Rattle.assembly_answers.specs.Answers.{run_file_answer};
 ghost use Rattle.check_driver.specs.Expected.{expected, file_at, files_answer};
@@ -23,14 +23,17 @@ ghost use Rattle.check_driver.specs.FilesLeft.{AnswerLeaves, IfEither, LeavesFil
 ghost use Rattle.answer_lines.specs.Outcome.{Gives, GivesOrFails, Leaves, last_line, status_of};
 ghost use Rattle.check_driver.specs.Headline.{BeginsItsWorld, IsAssemblyOf, RunsKeepArrays, TellAllProved, WasAppended};
 ghost use Rattle.check_driver.specs.HonestCaches.{AsksWithoutCache, HonestWhereHonest, IsCacheHonest, WritesAs};
-ghost use Rattle.check_driver.specs.Known.{AnswerKnows, KnowsCheck, WordsKnow};
+ghost use Rattle.check_driver.specs.Known.{AnswerKnows, Knows, WordsKnow};
+ghost use Rattle.check_driver.specs.LinkedHeadline.{AreLinkedBegun, AreLinkedOf, BeginsLinkedWorld, IfLinked, LinksWithoutCache, SomeLinkedBegun, TellLinkedProved};
 ghost use Rattle.check_driver.specs.NothingOr.{NothingOr};
 ghost use Rattle.check_driver.specs.ProofMet.{IsProofMet};
 ghost use Rattle.check_driver.specs.ProvedUnit.{AreSpelled, AsksForUnit, IfUnit, IsHeldSpelled, PrintsProvedUnit, SpellSafeUnit};
 ghost use Rattle.check_driver.specs.Refuted.{AsksToRefute, PrintsRefuted};
 ghost use Rattle.check_driver.specs.Sections.{HasProvedLine, section};
-ghost use Rattle.command_words.specs.Words.{HasArguments, IfGen, IfRun, args_told, cache_name, checked_indexes, command_of, file_indexes, file_names, proof_name, read_names, used_indexes, word_at, words_at, words_bytes};
+ghost use Rattle.command_words.specs.Words.{HasArguments, IfGen, IfRun, args_told, cache_name, checked_indexes, command_of, file_indexes, file_names, linked_files, proof_name, read_names, used_indexes, word_at, words_at, words_bytes};
 ghost use Rattle.answer_lines.specs.Writing.{change_of};
+ghost use Rattle.unit_builder.specs.Linked.{linked_world};
+ghost use Rattle.unit_builder.specs.Scopes.{key_at};
 ghost use Rattle.unit_builder.specs.WorldOf.{world_of};
 ghost use Rattle.answer_lines.specs.Answers.{output_answer};
 ghost use Rattle.proof_files.specs.Reading.{ProofRead};
@@ -40,6 +43,7 @@ ghost use Rattle.unit_verdicts.specs.Picks.{Manner};
 use crate::check_answer::answer_check;
 use crate::gen_answer::answer_gen;
 use crate::inputs::{CallFiles, read_inputs};
+use crate::linked_answer::answer_linked;
 use crate::reading::Unread;
 use crate::unit_answer::answer_unit_file;
 use crate::verify_answer::answer_verify;
@@ -113,10 +117,13 @@ fn answer_bytes<F: Files, O: Sink, E: Sink, D: Finder>(
     ensures begun { IfReports command ((manner : Manner)
         × AreBegun manner (zip (words_at (words_bytes given.now.words.now) (checked_indexes command)) (files_of given.now))
         (O.written out.old) (O.written out.new)) }
+    ensures linked { IfLinked command (λ linked. NothingOr (O.written out.old) (O.written out.new)
+        (SomeLinkedBegun (words_at (words_bytes given.now.words.now) (linked_files linked)) (files_of given.now)
+        (O.written out.old) (O.written out.new))) }
     ensures asked { Asks (bytes_asked command (cache_of given.now) (files_of given.now)) result
         (D.asked finder.old) (D.asked finder.new) }
     ensures spelled { NothingOr (O.written out.old) (O.written out.new) (IfUnit command (λ _. AreSpelled (file_at (files_of given.now) 0))) }
-    ensures known { IfOk result (λ status. IfCheck command (λ check. KnowsCheck check (cache_of given.now) (files_of given.now) status)) }
+    ensures known { IfOk result (λ status. Knows command (cache_of given.now) (files_of given.now) status) }
     ensures honest { let words = words_bytes given.now.words.now in
         HonestWhereHonest (command_cache words command) (command_proof words command)
         (cache_entries (cache_of given.now)) (F.held files.old) (F.held files.new) }
@@ -136,6 +143,7 @@ fn answer_bytes<F: Files, O: Sink, E: Sink, D: Finder>(
             answer_il(alloc, name, method, &given.read[0], out, err)
         }
         Command::Check(check) => answer_check(alloc, check, given, files, out, err, finder),
+        Command::Linked(linked) => answer_linked(alloc, linked, given, files, out, err, finder),
         Command::Verify { file, proof } => {
             let (name, by) = names_at(words, file, proof);
             answer_verify(
@@ -188,6 +196,8 @@ fn answer_command<F: Files, O: Sink, E: Sink, D: Finder>(
     ensures memory { IfOk result (λ status. status ≢ 7) }
     ensures begun { IfReports command
         (AreHeldBegun (F.held files.old) (words_at (words_bytes words.now) (checked_indexes command)) (O.written out.old) (O.written out.new)) }
+    ensures linked { IfLinked command (λ linked.
+        AreLinkedBegun (F.held files.old) (words_at (words_bytes words.now) (linked_files linked)) (O.written out.old) (O.written out.new)) }
     ensures spelled { NothingOr (O.written out.old) (O.written out.new)
         (IfUnit command (λ file. IsHeldSpelled (F.held files.old) (word_at (words_bytes words.now) file))) }
 {
@@ -233,6 +243,9 @@ fn answer_words<F: Files, O: Sink, E: Sink, D: Finder>(
     ensures begun { let given = words_bytes words.now in
         IfSome (command_of given) (λ command. IfReports command
         (AreHeldBegun (F.held files.old) (words_at given (checked_indexes command)) (O.written out.old) (O.written out.new))) }
+    ensures linked { let given = words_bytes words.now in
+        IfSome (command_of given) (λ command. IfLinked command (λ linked.
+        AreLinkedBegun (F.held files.old) (words_at given (linked_files linked)) (O.written out.old) (O.written out.new))) }
     ensures spelled { let given = words_bytes words.now in
         NothingOr (O.written out.old) (O.written out.new)
         (IfSome (command_of given) (λ command. IfUnit command (λ file. IsHeldSpelled (F.held files.old) (word_at given file)))) }
@@ -306,6 +319,12 @@ pub fn run_words<F: Files, O: Sink, E: Sink, D: Finder>(
         → result ≢ 4 → result ≢ 6 → result ≢ 7
         → WritesAs (expected other (met_of held (file_names other))) result
         (change_of O.written O.puts O.faults out.old out.new) }
+    // So does a check of linked files.
+    ensures linked_cache { (held : Held) (other : List (List ℕ)) → F.held files.old ≡ Some held
+        → LinksWithoutCache (words_bytes words.now) other → IsCacheHonest (cache_name (words_bytes words.now)) held
+        → result ≢ 4 → result ≢ 6 → result ≢ 7
+        → WritesAs (expected other (met_of held (file_names other))) result
+        (change_of O.written O.puts O.faults out.old out.new) }
     // It leaves an honest cache, or the files as they were, whatever the status.
     ensures kept_honest { (held after : Held) → F.held files.old ≡ Some held → F.held files.new ≡ Some after
         → IsCacheHonest (cache_name (words_bytes words.now)) held
@@ -330,6 +349,19 @@ pub fn run_words<F: Files, O: Sink, E: Sink, D: Finder>(
         → IsAssemblyOf (words_bytes words.now) held k bytes → WasAppended (O.written out.old) (O.written out.new) text
         → Contains (methods_of bytes) method → TellAllProved (section k text) bytes method
         → RunsKeepArrays (world_of bytes method.token.0) }
+    // Where the reports of linked files have told each method that one reaches by calls, also by those of other files, to be
+    // proved, each in the report of its own file, no run of that one in its world over the files, which begins with its own
+    // unit, is ever at a fault, whatever the status and however far the reports came.
+    ensures linked { (held : Held) (all : List (List ℕ)) (k : ℕ) (bytes text : List ℕ) (method : MethodRow) → F.held files.old ≡ Some held
+        → AreLinkedOf (words_bytes words.now) held all → WasAppended (O.written out.old) (O.written out.new) text
+        → slice_get all k ≡ Some bytes → Contains (methods_of bytes) method → TellLinkedProved text all k method
+        → BeginsLinkedWorld all k method × Safe (linked_world all (key_at k method.token.0)) 0 }
+    // Nor does a frame of such a run change an array that it was not passed, until it is gone, and what it returns is
+    // what its callers know of it.
+    ensures linked_keeps { (held : Held) (all : List (List ℕ)) (k : ℕ) (bytes text : List ℕ) (method : MethodRow) → F.held files.old ≡ Some held
+        → AreLinkedOf (words_bytes words.now) held all → WasAppended (O.written out.old) (O.written out.new) text
+        → slice_get all k ≡ Some bytes → Contains (methods_of bytes) method → TellLinkedProved text all k method
+        → RunsKeepArrays (linked_world all (key_at k method.token.0)) }
     // A file that was told to be that of a proved unit is the spelling of a safe one, whatever the status.
     ensures single_unit { (held : Held) (bytes signature : List ℕ) → F.held files.old ≡ Some held
         → AsksForUnit (words_bytes words.now) held bytes

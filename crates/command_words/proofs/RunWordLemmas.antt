@@ -38,6 +38,7 @@ no_run (commands.Unit file) words none = tt
 no_run (commands.List file) words none = tt
 no_run (commands.Il file method) words none = tt
 no_run (commands.Check check) words none = tt
+no_run (commands.Linked linked) words none = tt
 no_run (commands.Verify file proof) words none = tt
 no_run (commands.Run run) words none = absurd none
 no_run (commands.Refute file method runs) words none = tt

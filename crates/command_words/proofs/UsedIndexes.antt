@@ -3,7 +3,7 @@ use Rattle.std.proofs.Common.{ℕ, ◌<◌, List, [], ◌∷◌, ◌++◌, Optio
 use Rattle.std.specs.Prelude.{All, IfSome}
 use Rattle.std.specs.List.{AllByRecursion}
 use Rattle.std.proofs.lemmas.List.Elements.{All-from_recursion, recursion_from_All}
-use Rattle.command_words.specs.Words.{cache_index, check_files, file_indexes, proof_index, used_indexes}
+use Rattle.command_words.specs.Words.{cache_index, check_files, file_indexes, linked_files, proof_index, used_indexes}
 use Rattle.command_words.specs.declared.command.Command.{Command}
 use Rattle.command_words.specs.declared.command.Command.TheVariants as commands
 
@@ -32,6 +32,9 @@ module _ (limit : ℕ) where
   files_below (commands.Il file method) all = first_alone file (method ∷ []) all
   files_below (commands.Check check) all =
       first_part (check_files check) (option_to_list check.cache) (first_part (check_files check ++ option_to_list check.cache) (option_to_list check.proof) all)
+  files_below (commands.Linked linked) all =
+      first_part (linked_files linked) (option_to_list linked.check.cache)
+      (first_part (linked_files linked ++ option_to_list linked.check.cache) (option_to_list linked.check.proof) all)
   files_below (commands.Verify file proof) all = all
   files_below (commands.Run run) all = first_alone run.file (run.method ∷ []) all
   files_below (commands.Refute file method runs) all = first_alone file (method ∷ []) all
@@ -44,6 +47,10 @@ module _ (limit : ℕ) where
   cache_below (commands.Check check) all =
       one_below check.cache
       (last_part (check_files check) (option_to_list check.cache) (first_part (check_files check ++ option_to_list check.cache) (option_to_list check.proof) all))
+  cache_below (commands.Linked linked) all =
+      one_below linked.check.cache
+      (last_part (linked_files linked) (option_to_list linked.check.cache)
+      (first_part (linked_files linked ++ option_to_list linked.check.cache) (option_to_list linked.check.proof) all))
   cache_below (commands.Verify file proof) all = tt
   cache_below (commands.Run run) all = tt
   cache_below (commands.Refute file method runs) all = tt
@@ -55,6 +62,8 @@ module _ (limit : ℕ) where
   proof_below (commands.Il file method) all = tt
   proof_below (commands.Check check) all =
       one_below check.proof (last_part (check_files check ++ option_to_list check.cache) (option_to_list check.proof) all)
+  proof_below (commands.Linked linked) all =
+      one_below linked.check.proof (last_part (linked_files linked ++ option_to_list linked.check.cache) (option_to_list linked.check.proof) all)
   proof_below (commands.Verify file proof) all = tt
   proof_below (commands.Run run) all = tt
   proof_below (commands.Refute file method runs) all = tt

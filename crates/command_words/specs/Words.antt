@@ -1,6 +1,6 @@
 -- The grammar of the program's words.
-use Rattle.std.specs.Prelude.{◌≡◌, ℕ, ◌+◌, ◌-◌, ◌*◌, ◌^◌, ◌≤◌, true, Bool, false, not, nat_le, nat_lt, List, [], ◌∷◌, ◌++◌, length, map, take, drop, Option, Some, None, option_map, option_and_then, option_to_list, ◌==◌, ◌&&◌, ◌||◌, if◌then◌else◌, codes, slice_index_or, filter, position}
-use Rattle.std.specs.List.{count_by, list_all, range_with_len}
+use Rattle.std.specs.Prelude.{◌≡◌, ℕ, zero, suc, ◌+◌, ◌-◌, ◌*◌, ◌^◌, ◌≤◌, true, Bool, false, not, nat_le, nat_lt, List, [], ◌∷◌, ◌++◌, length, map, take, drop, Option, Some, None, option_map, option_and_then, option_to_list, ◌==◌, ◌&&◌, ◌||◌, if◌then◌else◌, codes, slice_index_or, filter, position}
+use Rattle.std.specs.List.{count_by, flat_map, list_all, list_any, range_with_len}
 use Rattle.std.specs.Str.{bytes_eq}
 use Rattle.std.specs.String.{string_bytes}
 use Rattle.std.specs.declared.alloc.Global.{Global}
@@ -9,6 +9,7 @@ use Rattle.command_words.specs.declared.command.Command.{Command}
 use Rattle.command_words.specs.declared.command.Command.TheVariants as commands
 use Rattle.command_words.specs.declared.command.RunWords.{RunWords}
 use Rattle.command_words.specs.declared.check_words.CheckWords.{CheckWords}
+use Rattle.command_words.specs.declared.linked_words.LinkedWords.{LinkedWords}
 use Rattle.run_arguments.specs.Arguments.{is_argument}
 use Rattle.run_arguments.specs.Numbers.{number_of_word}
 
@@ -81,9 +82,13 @@ is_cache word = bytes_eq word (codes "--cache")
 abbrev pub is_proof : List ℕ → Bool
 is_proof word = bytes_eq word (codes "--proof")
 
+-- The word after which a reference is named: an assembly with which the others are linked.
+abbrev pub is_ref : List ℕ → Bool
+is_ref word = bytes_eq word (codes "--ref")
+
 -- A word that may stand after `check`.
 abbrev pub is_check_word : List ℕ → Bool
-is_check_word word = is_show word || (is_cache word || (is_proof word || is_name_word word))
+is_check_word word = is_show word || (is_cache word || (is_proof word || (is_ref word || is_name_word word)))
 
 -- Where a name stands among these words: after the first that is such an option.
 abbrev pub name_place : (List ℕ → Bool) → List (List ℕ) → Option ℕ
@@ -101,31 +106,43 @@ abbrev pub is_own_name : List (List ℕ) → Option ℕ → Bool
 is_own_name words None = true
 is_own_name words (Some place) = is_name_word (word_at words place) && count_by (bytes_eq (word_at words place)) words == 1
 
--- The most files that a check may have.
+-- After each word that asks for a reference stands a name.
+abbrev pub are_refs_named : List (List ℕ) → Bool
+are_refs_named [] = true
+are_refs_named (word ∷ words) = (not (is_ref word) || is_name_word (word_at words 0)) && are_refs_named words
+
+-- The most files that a check may have, without its references.
 abbrev pub MAX_FILES : ℕ
 MAX_FILES = 64
 
--- How many of these words name files of a check: all but `--show`, `--cache` and `--proof`, and the names after these two.
-abbrev pub file_count : List (List ℕ) → ℕ
-file_count words = length words - (count_by is_show words + 2 * (count_by is_cache words + count_by is_proof words))
+-- The most references that it may have.
+abbrev pub MAX_REFS : ℕ
+MAX_REFS = 16
 
--- At most one `--show`, at most one `--cache`, at most one `--proof`, and 1 to 64 files.
+-- How many of these words name files of a check that are no references: all but `--show`, `--cache`, `--proof` and `--ref`,
+-- and the names after these three.
+abbrev pub file_count : List (List ℕ) → ℕ
+file_count words =
+    length words - (count_by is_show words + 2 * (count_by is_cache words + (count_by is_proof words + count_by is_ref words)))
+
+-- At most one `--show`, at most one `--cache`, at most one `--proof`, at most 16 references, and 1 to 64 other files.
 abbrev pub are_few : List (List ℕ) → Bool
 are_few words =
     nat_le (count_by is_show words) 1 && nat_le (count_by is_cache words) 1 && nat_le (count_by is_proof words) 1
-    && nat_le 1 (file_count words) && nat_le (file_count words) MAX_FILES
+    && nat_le (count_by is_ref words) MAX_REFS && nat_le 1 (file_count words) && nat_le (file_count words) MAX_FILES
 
--- Words are those of a check where each may stand there, none of a kind stands there too often, and the cache and the
--- proof file have names of their own.
+-- Words are those of a check where each may stand there, none of a kind stands there too often, each reference is named,
+-- and the cache and the proof file have names of their own.
 abbrev pub are_check_words : List (List ℕ) → Bool
-are_check_words words = list_all is_check_word words && are_few words && is_own_name words (cache_place words) && is_own_name words (proof_place words)
+are_check_words words =
+    list_all is_check_word words && are_few words && are_refs_named words && is_own_name words (cache_place words) && is_own_name words (proof_place words)
 
 -- The index, among all words of a check, of the word at this place after `check`.
 abbrev pub word_index : Option ℕ → Option ℕ
 word_index place = option_map (λ place. place + 1) place
 
 -- How many words a check has, and which of them are `--show` and the names of the cache and of the proof file, for the
--- words after `check`.
+-- words after `check`. Its references are told apart.
 unfoldable pub check_words : List (List ℕ) → Option CheckWords
 check_words words =
     if are_check_words words
@@ -151,9 +168,39 @@ tells_name (Some name) index = index == name || index == name - 1
 abbrev pub names_file : CheckWords → ℕ → Bool
 names_file check index = not (tells_show check.show index) && not (tells_name check.cache index) && not (tells_name check.proof index)
 
--- The indexes of the words that name the files of a check, in order.
+-- The indexes of the words that name the files of a check without references, in order.
 abbrev pub check_files : CheckWords → List ℕ
 check_files check = filter (names_file check) (range_with_len 1 (check.count - 1))
+
+-- ---- checks with references
+
+-- The indexes of the names of references, for words of which the first has this index.
+abbrev pub refs_from : ℕ → List (List ℕ) → List ℕ
+refs_from index [] = []
+refs_from index (word ∷ words) = if is_ref word then (index + 1) ∷ refs_from (index + 1) words else refs_from (index + 1) words
+
+-- Indexes in so much room: behind the last there is none.
+abbrev pub padded : ℕ → List ℕ → List (Option ℕ)
+padded zero indexes = []
+padded (suc room) [] = None ∷ padded room []
+padded (suc room) (index ∷ indexes) = Some index ∷ padded room indexes
+
+-- The indexes that are there.
+abbrev pub refs_in : List (Option ℕ) → List ℕ
+refs_in refs = flat_map option_to_list refs
+
+-- What the words tell of a check and its references, for the words after `check`.
+unfoldable pub linked_words : List (List ℕ) → Option LinkedWords
+linked_words words = option_map (λ check. record { check = check; refs = padded MAX_REFS (refs_from 1 words) }) (check_words words)
+
+-- The word at an index is the name of one of these references, or the option before that.
+abbrev pub tells_ref : List (Option ℕ) → ℕ → Bool
+tells_ref refs index = list_any (λ name. tells_name name index) refs
+
+-- The indexes of the words that name the files of a check with references: those that are no references, in order, and
+-- then the references, in order.
+abbrev pub linked_files : LinkedWords → List ℕ
+linked_files linked = filter (λ index. not (tells_ref linked.refs index)) (check_files linked.check) ++ refs_in linked.refs
 
 -- ---- runs
 
@@ -247,11 +294,16 @@ other_command (word ∷ first ∷ second ∷ args) =
     else None
 other_command _ = None
 
+-- The command of the words after `check`.
+abbrev pub check_command : List (List ℕ) → Option Command
+check_command words =
+    if count_by is_ref words == 0 then option_map commands.Check (check_words words) else option_map commands.Linked (linked_words words)
+
 -- The command that the words are, if they are one.
 abbrev pub command_of : List (List ℕ) → Option Command
 command_of [] = None
 command_of (word ∷ words) =
-    if bytes_eq word (codes "check") then option_map commands.Check (check_words words) else other_command (word ∷ words)
+    if bytes_eq word (codes "check") then check_command words else other_command (word ∷ words)
 
 -- The indexes of the words that name the command's files, in the order in which the files are read.
 abbrev pub file_indexes : Command → List ℕ
@@ -259,17 +311,20 @@ file_indexes (commands.Unit file) = file ∷ []
 file_indexes (commands.List file) = file ∷ []
 file_indexes (commands.Il file method) = file ∷ []
 file_indexes (commands.Check check) = check_files check
+file_indexes (commands.Linked linked) = linked_files linked
 file_indexes (commands.Verify file proof) = file ∷ proof ∷ []
 file_indexes (commands.Run run) = run.file ∷ []
 file_indexes (commands.Refute file method runs) = file ∷ []
 file_indexes (commands.Gen seed count) = []
 
--- The indexes of those among them that name the assemblies whose reports the command makes, in the order of these.
+-- The indexes of those among them that name the assemblies that the command reports each by itself, in the order of
+-- the reports. Those that are linked with each other are no such.
 abbrev pub checked_indexes : Command → List ℕ
 checked_indexes (commands.Unit file) = []
 checked_indexes (commands.List file) = []
 checked_indexes (commands.Il file method) = []
 checked_indexes (commands.Check check) = check_files check
+checked_indexes (commands.Linked linked) = []
 checked_indexes (commands.Verify file proof) = file ∷ []
 checked_indexes (commands.Run run) = []
 checked_indexes (commands.Refute file method runs) = []
@@ -281,6 +336,7 @@ cache_index (commands.Unit file) = None
 cache_index (commands.List file) = None
 cache_index (commands.Il file method) = None
 cache_index (commands.Check check) = check.cache
+cache_index (commands.Linked linked) = linked.check.cache
 cache_index (commands.Verify file proof) = None
 cache_index (commands.Run run) = None
 cache_index (commands.Refute file method runs) = None
@@ -292,6 +348,7 @@ proof_index (commands.Unit file) = None
 proof_index (commands.List file) = None
 proof_index (commands.Il file method) = None
 proof_index (commands.Check check) = check.proof
+proof_index (commands.Linked linked) = linked.check.proof
 proof_index (commands.Verify file proof) = None
 proof_index (commands.Run run) = None
 proof_index (commands.Refute file method runs) = None
@@ -303,6 +360,7 @@ used_indexes (commands.Unit file) = file ∷ []
 used_indexes (commands.List file) = file ∷ []
 used_indexes (commands.Il file method) = file ∷ method ∷ []
 used_indexes (commands.Check check) = check_files check ++ option_to_list check.cache ++ option_to_list check.proof
+used_indexes (commands.Linked linked) = linked_files linked ++ option_to_list linked.check.cache ++ option_to_list linked.check.proof
 used_indexes (commands.Verify file proof) = file ∷ proof ∷ []
 used_indexes (commands.Run run) = run.file ∷ run.method ∷ []
 used_indexes (commands.Refute file method runs) = file ∷ method ∷ []
@@ -324,7 +382,7 @@ abbrev pub checked_files : List (List ℕ) → Option Command → List (List ℕ
 checked_files words None = []
 checked_files words (Some command) = words_at words (checked_indexes command)
 
--- The names of the assemblies whose reports are made for these words, in order.
+-- The names of the assemblies that are reported each by itself for these words, in order.
 abbrev pub checked_names : List (List ℕ) → List (List ℕ)
 checked_names words = checked_files words (command_of words)
 

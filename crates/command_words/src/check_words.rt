@@ -3,16 +3,17 @@
 ghost use Rattle.std.specs.Prelude.{◌≡◌, ◌+◌, ◌<◌, ◌≤◌, ◌++◌, All, IfOk, IfSome, IsTrue, Some, count_by, is_some, length, option_to_list, position, string_bytes};
 ghost use Rattle.std.specs.List.{list_all};
 ghost use Rattle.std.specs.Str.{bytes_eq};
-ghost use Rattle.command_words.specs.Words.{are_check_words, are_few, cache_place, check_files, check_words, is_cache, is_check_word, is_name_word, is_own_name, is_proof, is_show, names_file, proof_place, tells_name, tells_show, word_index, words_bytes};
+ghost use Rattle.command_words.specs.Words.{are_check_words, are_few, are_refs_named, cache_place, check_files, check_words, is_cache, is_check_word, is_name_word, is_own_name, is_proof, is_ref, is_show, names_file, proof_place, tells_name, tells_show, word_index, word_at, words_bytes};
 
 use crate::names::is_name_word;
 use std::alloc::{AllocError, Global};
 
 /// The words of a check: `check`, and then its files, perhaps `--show`, perhaps `--cache` and the name of a cache, and
-/// perhaps `--proof` and the name of a proof file, in any order. All other words name files.
+/// perhaps `--proof` and the name of a proof file, in any order. All other words name files, or tell references
+/// (`LinkedWords`).
 #[derive(Clone, Copy, Debug, PartialEq, Eq)]
 pub struct CheckWords {
-    /// The number of all words, with `check` and what is no file: at most 70.
+    /// The number of all words, with `check` and what is no file: at most 102.
     pub count: u32,
     /// The index of `--show`, where it is among them.
     pub show: Option<u32>,
@@ -47,7 +48,7 @@ impl CheckWords {
         !self.tells_show(index) && !tells_name(self.cache, index) && !tells_name(self.proof, index)
     }
 
-    /// The indexes of the words that name files, in their order.
+    /// The indexes of the words that name files, in their order, where none tells a reference.
     pub fn files(&self, alloc: Global) -> Result<Vec<u32>, AllocError>
         ensures { IfOk result (λ files. files.items ≡ check_files self.now) }
     {
@@ -58,7 +59,7 @@ impl CheckWords {
 }
 
 /// Returns whether the word at an index is the name at another, or the option before that.
-fn tells_name(name: Option<u32>, index: u32) -> bool
+pub(crate) fn tells_name(name: Option<u32>, index: u32) -> bool
     ensures { result ≡ tells_name name index }
 {
     match name {
@@ -88,6 +89,13 @@ fn is_proof(word: &String) -> bool
     word.as_str() == "--proof"
 }
 
+/// Returns whether a reference is named after this word.
+pub(crate) fn is_ref(word: &String) -> bool
+    ensures { result ≡ is_ref (string_bytes word.now) }
+{
+    word.as_str() == "--ref"
+}
+
 /// Returns whether a word may name a file.
 fn is_file(word: &String) -> bool
     ensures { result ≡ is_name_word (string_bytes word.now) }
@@ -99,7 +107,7 @@ fn is_file(word: &String) -> bool
 fn is_check_word(word: &String) -> bool
     ensures { result ≡ is_check_word (string_bytes word.now) }
 {
-    is_show(word) || is_cache(word) || is_proof(word) || is_file(word)
+    is_show(word) || is_cache(word) || is_proof(word) || is_ref(word) || is_file(word)
 }
 
 /// Returns whether each word may stand after `check`.
@@ -138,6 +146,14 @@ fn count_proofs(words: &[String]) -> usize
     ensures { result ≡ count_by is_proof (words_bytes words.now) }
 {
     words.iter().filter(|word| is_proof(word)).count()
+}
+
+/// After how many words a reference is named.
+#[tactic(auto, using(crate::proofs::WordBytes::told))]
+pub(crate) fn count_refs(words: &[String]) -> usize
+    ensures { result ≡ count_by is_ref (words_bytes words.now) }
+{
+    words.iter().filter(|word| is_ref(word)).count()
 }
 
 /// How many of these words are this one.
@@ -220,41 +236,73 @@ fn is_own_name(words: &[String], place: Option<usize>) -> bool
     }
 }
 
-/// The most files that a check may have.
+/// Returns whether the first of these words is a name.
+fn begins_with_name(words: &[String]) -> bool
+    ensures { result ≡ is_name_word (word_at (words_bytes words.now) 0) }
+{
+    match words {
+        [] => false,
+        [word, ..] => is_file(word),
+    }
+}
+
+/// Returns whether a name stands after each word that asks for a reference.
+fn are_refs_named(words: &[String]) -> bool
+    ensures { result ≡ are_refs_named (words_bytes words.now) }
+{
+    match words {
+        [] => true,
+        [word, others @ ..] => {
+            (!is_ref(word) || begins_with_name(others)) && are_refs_named(others)
+        }
+    }
+}
+
+/// The most files that a check may have, without its references.
 const MAX_FILES: usize = 64;
 
-/// Returns whether at most one word asks for invariants, a cache and a proof file are named at most once each, and 1 to 64
-/// words name files.
+/// The most references that it may have.
+pub(crate) const MAX_REFS: usize = 16;
+
+/// Returns whether at most one word asks for invariants, a cache and a proof file are named at most once each and
+/// references at most 16 times, and 1 to 64 words name other files.
 fn are_few(words: &[String]) -> bool
     ensures value { result ≡ are_few (words_bytes words.now) }
-    ensures few { IsTrue result → length words.now ≤ 69 }
+    ensures few { IsTrue result → length words.now ≤ 101 }
+    ensures refs { IsTrue result → count_by is_ref (words_bytes words.now) ≤ 16 }
 {
     let shows = count_shows(words);
     let caches = count_caches(words);
     let proofs = count_proofs(words);
-    if shows > 1 || caches > 1 || proofs > 1 {
+    let refs = count_refs(words);
+    if shows > 1 || caches > 1 || proofs > 1 || refs > MAX_REFS {
         return false;
     }
-    let files = words.len().saturating_sub(shows + 2 * (caches + proofs));
+    let files = words
+        .len()
+        .saturating_sub(shows + 2 * (caches + (proofs + refs)));
     1 <= files && files <= MAX_FILES
 }
 
 /// Returns whether these words may stand after `check`.
 fn are_check_words(words: &[String]) -> bool
     ensures value { result ≡ are_check_words (words_bytes words.now) }
-    ensures few { IsTrue result → length words.now ≤ 69 }
+    ensures few { IsTrue result → length words.now ≤ 101 }
+    ensures refs { IsTrue result → count_by is_ref (words_bytes words.now) ≤ 16 }
+    ensures named { IsTrue result → IsTrue (are_refs_named (words_bytes words.now)) }
     ensures cache { IsTrue result → IfSome (cache_place (words_bytes words.now)) (λ place. place < length words.now) }
     ensures proof { IsTrue result → IfSome (proof_place (words_bytes words.now)) (λ place. place < length words.now) }
 {
     may_follow(words)
         && are_few(words)
+        && are_refs_named(words)
         && is_own_name(words, cache_place(words))
         && is_own_name(words, proof_place(words))
 }
 
 /// The index, among all words, of the word at a place after `check`.
 fn word_index(place: Option<usize>) -> Option<u32>
-    requires { IfSome place (λ place. place ≤ 69) }
+    requires { IfSome place (λ place. place ≤ 101) }
     ensures { result ≡ word_index place }
 {
     match place {
@@ -263,11 +311,15 @@ fn word_index(place: Option<usize>) -> Option<u32>
     }
 }
 
-/// The words of a check, where these stand after `check`: 1 to 64 files, perhaps `--show`, perhaps `--cache` and a name, and
-/// perhaps `--proof` and another. None of the files has either name.
+/// The words of a check, where these stand after `check`: 1 to 64 files, perhaps `--show`, perhaps `--cache` and a name,
+/// perhaps `--proof` and another, and at most 16 times `--ref` and a name. No file and no reference has the name of the
+/// cache or of the proof file.
 #[tactic(auto, unfolding(crate::specs::Words::check_words))]
 pub fn read_check(words: &[String]) -> Option<CheckWords>
     ensures inside { IfSome result (λ check. All (λ index. index < length words.now + 1) (check_files check ++ option_to_list check.cache ++ option_to_list check.proof)) }
+    ensures few { IfSome result (λ _. length words.now ≤ 101) }
+    ensures refs { IfSome result (λ _. count_by is_ref (words_bytes words.now) ≤ 16) }
+    ensures named { IfSome result (λ _. IsTrue (are_refs_named (words_bytes words.now))) }
     ensures value { result ≡ check_words (words_bytes words.now) }
 {
     if !are_check_words(words) {

@@ -1,13 +1,13 @@
 //! The words that the program is given.
 
-ghost use Rattle.std.specs.Prelude.{◌≡◌, [], ◌∷◌, ◌+◌, ◌<◌, ◌≤◌, ◌^◌, All, IfOk, IfSome, IsTrue, length, option_map, string_bytes};
+ghost use Rattle.std.specs.Prelude.{◌≡◌, [], ◌∷◌, ◌+◌, ◌<◌, ◌≤◌, ◌^◌, All, IfOk, IfSome, IsTrue, length, string_bytes};
 ghost use Rattle.std.specs.List.{list_all};
-ghost use Rattle.command_words.specs.Words.{HasArguments, IfGen, IfRun, args_end, at_least_one, cache_index, check_words, command_of, command_of_three, command_of_two, file_indexes, gen_command, il_command, is_name_word, names_run, other_command, proof_index, refute_command, run_args, run_command, run_steps, runs_told, tells_steps, used_indexes, verify_command, word_at, words_bytes};
-ghost use Rattle.command_words.specs.declared.command.Command.TheVariants as commands;
+ghost use Rattle.command_words.specs.Words.{HasArguments, IfGen, IfRun, args_end, at_least_one, cache_index, check_command, command_of, command_of_three, command_of_two, file_indexes, gen_command, il_command, is_name_word, names_run, other_command, proof_index, refute_command, run_args, run_command, run_steps, runs_told, tells_steps, used_indexes, verify_command, word_at, words_bytes};
 ghost use Rattle.run_arguments.specs.Arguments as arguments;
 ghost use Rattle.run_arguments.specs.Numbers.{number_of_word};
 
-use crate::check_words::{CheckWords, read_check};
+use crate::check_words::{CheckWords, count_refs, read_check};
+use crate::linked_words::{LinkedWords, read_linked};
 use crate::names::is_name_word;
 use run_arguments::{is_argument, read_number};
 use std::alloc::{AllocError, Global};
@@ -25,6 +25,8 @@ pub enum Command {
     /// The reports of the assemblies in files, with the invariants of their methods or without, and with a cache and a
     /// proof file that is written or without them.
     Check(CheckWords),
+    /// The same of assemblies that are linked with each other, with references among them.
+    Linked(LinkedWords),
     /// The report of an assembly by the invariants of a proof file.
     Verify {
         /// The index of the word that names the file of the assembly.
@@ -91,6 +93,7 @@ impl Command {
             | Command::Refute { file, .. } => only(alloc, *file),
             Command::Verify { file, proof } => both(alloc, *file, *proof),
             Command::Check(words) => words.files(alloc),
+            Command::Linked(words) => words.files(alloc),
             Command::Gen(_, _) => Ok(Vec::new(alloc)),
         }
     }
@@ -101,6 +104,7 @@ impl Command {
     {
         match self {
             Command::Check(words) => words.cache,
+            Command::Linked(words) => words.check.cache,
             _ => None,
         }
     }
@@ -111,6 +115,7 @@ impl Command {
     {
         match self {
             Command::Check(words) => words.proof,
+            Command::Linked(words) => words.check.proof,
             _ => None,
         }
     }
@@ -340,10 +345,13 @@ fn check_command(words: &[String]) -> Option<Command>
     ensures inside { IfSome result (λ command. All (λ index. index < length words.now + 1) (used_indexes command)) }
     ensures no_run { IfSome result (λ command. IfRun command (λ run. ⊥)) }
     ensures few { IfSome result (λ command. IfGen command (λ seed count. count ≤ 10000)) }
-    ensures command { result ≡ option_map commands.Check (check_words (words_bytes words.now)) }
+    ensures command { result ≡ check_command (words_bytes words.now) }
 {
-    let check = read_check(words)?;
-    Some(Command::Check(check))
+    if count_refs(words) == 0 {
+        Some(Command::Check(read_check(words)?))
+    } else {
+        Some(Command::Linked(read_linked(words)?))
+    }
 }
 
 /// The command of words of which the first is not `check`, if they are one.

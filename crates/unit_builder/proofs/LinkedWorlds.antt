@@ -9,7 +9,7 @@ use Rattle.std.proofs.lemmas.List.{append-nil, get_or-map, get_or_append_left, l
 use Rattle.std.proofs.lemmas.List.Elements.{Contains-append_right}
 use Rattle.std.proofs.lemmas.List.FromFn.{get_or-range_with_len, length-range_with_len}
 use Rattle.std.proofs.lemmas.Option.{get_or_from_slice_get, slice_get-get_or, slice_get_within}
-use Rattle.asm_image.specs.Bodies.{is_method_token, method_of}
+use Rattle.asm_image.specs.Bodies.{method_of}
 use Rattle.asm_image.specs.Rows.{methods_of}
 use Rattle.asm_image.specs.declared.method_row.MethodRow.{MethodRow}
 use Rattle.cc_base.specs.Tokens.{row_of, table_of}
@@ -121,7 +121,7 @@ calls_there files calls key called there = of_method (files.method key) there wh
 pub record AllAnalysedIn (files : Files) (from : ℕ) : Type 0 where
   pub there : IsSome (files.method from)
   pub analysed : (key : ℕ) → IsSome (files.method key) → Reaches (calls_in files) from key → IsSome (unit_in files key)
-  pub units : (key : ℕ) (unit : MethodUnit) → unit_in files key ≡ Some unit → IsUnit unit
+  pub units : (key : ℕ) (unit : MethodUnit) → Reaches (calls_in files) from key → unit_in files key ≡ Some unit → IsUnit unit
 
 module _ (bytes : List (List ℕ)) (from : ℕ) (all : AllAnalysedIn (linked bytes) from) where
   abbrev files : Files
@@ -193,7 +193,7 @@ module _ (bytes : List (List ℕ)) (from : ℕ) (all : AllAnalysedIn (linked byt
       (λ key reached. each_contained (λ called. IsSome (place_in (world_keys files from) called)) (calls_in files key)
       (λ called there. in_order called (is_reached called (onward (reaching key reached) there)))) (world_keys files from) each_reached)
       (callees_in_unit files)
-      (λ key unit there is. info_in_agrees files key unit is (all.units key unit is))
+      (λ key unit there is. info_in_agrees files key unit is (all.units key unit (reaching key (reached_placed key there)) is))
 
   -- What is so of the unit of each method that is reached is so of each unit of the world.
   pub each_of_linked : (P : MethodUnit → Type 0)

@@ -4,6 +4,7 @@ pub mod Callees
 pub mod Graphs
 pub mod Laws
 pub mod Linked
+pub mod FileSets
 pub mod Making
 pub mod Meanings
 pub mod Met

@@ -6,6 +6,7 @@ mod callees;
 mod calls;
 mod code_checks;
 mod entry;
+mod file_units;
 mod header;
 mod linked;
 mod making;
@@ -23,6 +24,7 @@ mod world;
 
 pub use calls::callee_tokens;
 pub use entry::{MethodEntry, Outcome};
+pub use file_units::FileUnits;
 pub use linked::{FileEntries, build_linked};
 pub use reason::Reason;
 pub use units::{Units, build_units};

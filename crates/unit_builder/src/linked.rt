@@ -25,7 +25,7 @@ pub type FileEntries = List<MethodEntry>;
 
 /// Slots for the methods of all files. Nothing is read yet.
 #[tactic(auto, using(crate::proofs::SlotFacts::none_fresh, crate::proofs::SlotFacts::one_fresh, crate::proofs::SlotFacts::all_fresh))]
-fn all_fresh(alloc: Global, links: &Links<'_>) -> Result<Vec<Vec<Slot>>, NoMemory>
+pub(crate) fn all_fresh(alloc: Global, links: &Links<'_>) -> Result<Vec<Vec<Slot>>, NoMemory>
     ensures { IfOk result (λ slots. AreAllSlots (linked links.now) slots.items) }
 {
     let mut slots = Vec::new(alloc);

@@ -11,6 +11,7 @@ use Rattle.check_driver.specs.CacheMet.{IsMet}
 use Rattle.check_driver.proofs.FilesRead.{contents_long}
 use Rattle.check_driver.proofs.InputsRead.{file_below, no_cache_read, read_below}
 use Rattle.check_driver.proofs.Statuses.{never_missing, status_below}
+use Rattle.check_driver.proofs.LinkedBegun.{held_linked, none_linked}
 use Rattle.check_driver.proofs.Reportable.{held_checked, none_begun}
 use Rattle.check_driver.proofs.SpelledUnits.{held_spelled}
 use Rattle.check_driver.proofs.program.answer_command.Goals as goal
@@ -78,6 +79,12 @@ returns-in-Ok-clause-begun g c =
     held_checked (g.F.Files.held c.args.files.now) c.args.command (words_bytes c.args.words.now) met.0.files c.in-Ok.inputs.files.items _ _ (IsMet.files met.1) met.2.0
     (rw c.deref-in-Ok-2.ensures.value at c.answer_bytes.ensures.begun)
 
+pub returns-in-Ok-clause-linked : goal.returns-in-Ok-clause-linked
+returns-in-Ok-clause-linked g c =
+    let met = c.in-Ok.ensures.read in
+    held_linked (g.F.Files.held c.args.files.now) c.args.command (words_bytes c.args.words.now) met.0.files c.in-Ok.inputs.files.items _ _ (IsMet.files met.1) met.2.0
+    (rw c.deref-in-Ok-2.ensures.value at c.answer_bytes.ensures.linked)
+
 pub returns-in-Ok-clause-spelled : goal.returns-in-Ok-clause-spelled
 returns-in-Ok-clause-spelled g c =
     let met = c.in-Ok.ensures.read in
@@ -102,6 +109,9 @@ returns-in-Err-Missing-clause-memory g c = status_below 3 7 c.answer_missing.res
 pub returns-in-Err-Missing-clause-begun : goal.returns-in-Err-Missing-clause-begun
 returns-in-Err-Missing-clause-begun g c = none_begun (g.F.Files.held c.args.files.now) c.args.command (words_bytes c.args.words.now) (g.O.Sink.written c.args.out.now)
 
+pub returns-in-Err-Missing-clause-linked : goal.returns-in-Err-Missing-clause-linked
+returns-in-Err-Missing-clause-linked g c = none_linked (g.F.Files.held c.args.files.now) c.args.command (words_bytes c.args.words.now) (g.O.Sink.written c.args.out.now)
+
 pub returns-in-Err-Failed-clause-answer : goal.returns-in-Err-Failed-clause-answer
 returns-in-Err-Failed-clause-answer g c =
     let words = words_bytes c.args.words.now in
@@ -117,6 +127,9 @@ returns-in-Err-Failed-clause-memory g c = status_below 4 7 c.answer_unread.resul
 
 pub returns-in-Err-Failed-clause-begun : goal.returns-in-Err-Failed-clause-begun
 returns-in-Err-Failed-clause-begun g c = none_begun (g.F.Files.held c.args.files.now) c.args.command (words_bytes c.args.words.now) (g.O.Sink.written c.args.out.now)
+
+pub returns-in-Err-Failed-clause-linked : goal.returns-in-Err-Failed-clause-linked
+returns-in-Err-Failed-clause-linked g c = none_linked (g.F.Files.held c.args.files.now) c.args.command (words_bytes c.args.words.now) (g.O.Sink.written c.args.out.now)
 
 -- ---- memory ran out
 
@@ -134,3 +147,9 @@ returns-clause-begun g c = none_begun (g.F.Files.held c.args.files.now) c.args.c
 
 pub returns-in_err-indexes-clause-begun : goal.returns-in_err-indexes-clause-begun
 returns-in_err-indexes-clause-begun g c = none_begun (g.F.Files.held c.args.files.now) c.args.command (words_bytes c.args.words.now) (g.O.Sink.written c.args.out.now)
+
+pub returns-clause-linked : goal.returns-clause-linked
+returns-clause-linked g c = none_linked (g.F.Files.held c.args.files.now) c.args.command (words_bytes c.args.words.now) (g.O.Sink.written c.args.out.now)
+
+pub returns-in_err-indexes-clause-linked : goal.returns-in_err-indexes-clause-linked
+returns-in_err-indexes-clause-linked g c = none_linked (g.F.Files.held c.args.files.now) c.args.command (words_bytes c.args.words.now) (g.O.Sink.written c.args.out.now)

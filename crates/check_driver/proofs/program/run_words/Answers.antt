@@ -1,5 +1,5 @@
 use Rattle.std.proofs.Common.{◌≢◌, sym, ◌∙◌}
-use Rattle.command_words.specs.Words.{cache_name, proof_name, read_names, words_bytes}
+use Rattle.command_words.specs.Words.{cache_name, linked_files, proof_name, read_names, words_at, words_bytes}
 use Rattle.answer_lines.specs.Outcome.{status_of}
 use Rattle.answer_lines.specs.Writing.{change_of}
 use Rattle.answer_lines.proofs.Leaving.{front_given}
@@ -7,12 +7,16 @@ use Rattle.check_driver.specs.Asked.{asked_by}
 use Rattle.check_driver.specs.CacheMet.{IsMet}
 use Rattle.check_driver.specs.Expected.{expected}
 use Rattle.check_driver.specs.FilesLeft.{left_by}
+use Rattle.check_driver.specs.LinkedHeadline.{AreLinkedOf}
 use Rattle.check_driver.proofs.Asking.{leaves_asked}
 use Rattle.check_driver.proofs.CallLeft.{leaves_plainly, unread_cause, unwritten_cause}
 use Rattle.check_driver.proofs.CallEnds.{cache_alike, kept_honest, leaves_files, same_without}
 use Rattle.check_driver.proofs.CheckedSafety.{section_safe}
 use Rattle.check_driver.proofs.ConfirmedReports.{confirms_reports}
 use Rattle.check_driver.proofs.HeadlineSafety.{headline_keeps, headline_safe}
+use Rattle.check_driver.proofs.LinkedAlike.{linked_cache_alike}
+use Rattle.check_driver.proofs.LinkedBegun.{begun_of}
+use Rattle.check_driver.proofs.LinkedSafety.{linked_keeps, linked_safe}
 use Rattle.check_driver.proofs.OwnNames.{own_names}
 use Rattle.check_driver.proofs.ProvedUnits.{proved_unit_is_safe}
 use Rattle.check_driver.proofs.RefutedMethods.{refuted_is_unsafe}
@@ -54,6 +58,22 @@ returns-clause-cache g c = λ held other told asks honest read written memory.
     rw status
     (cache_alike words other (g.F.Files.held c.args.files.now) held met c.answer_words-answered.result _ asks told answer.1 honest answer.5 not_read not_written no_memory (all.0, all.1))
 
+pub returns-clause-linked_cache : goal.returns-clause-linked_cache
+returns-clause-linked_cache g c = λ held other told asks honest read written memory.
+    let words = words_bytes c.args.words.now in
+    let answer = c.answer_words-answered.ensures.answer in
+    let met = answer.0 in
+    let status = c.finish.ensures.status in
+    let ends =
+    leaves_plainly (expected words met) (read_names words) _ _ c.answer_words-answered.result _ _ _ _ _ _ _ _ _ (g.E.Sink.faults c.finish.new.err) (plain_expected words met c.answer_words-answered.result c.answer_words-answered.ensures.memory) answer.2
+    c.finish.ensures.front c.finish.ensures.puts in
+    let not_read : status_of c.answer_words-answered.result ≢ 4 = λ e. read (status ∙ e) in
+    let not_written : status_of c.answer_words-answered.result ≢ 6 = λ e. written (status ∙ e) in
+    let no_memory : status_of c.answer_words-answered.result ≢ 7 = λ e. memory (status ∙ e) in
+    let all = ends.answered not_read not_written no_memory in
+    rw status
+    (linked_cache_alike words other (g.F.Files.held c.args.files.now) held met c.answer_words-answered.result _ asks told answer.1 honest answer.5 not_read not_written no_memory (all.0, all.1))
+
 pub returns-clause-kept_honest : goal.returns-clause-kept_honest
 returns-clause-kept_honest g c = λ held after told now honest.
     let words = words_bytes c.args.words.now in
@@ -80,6 +100,22 @@ returns-clause-keeps g c = λ held k bytes text method told assembly appended ha
     let written = g.O.Sink.written in
     headline_keeps (g.F.Files.held c.args.files.now) (words_bytes c.args.words.now) held k bytes text (written c.args.out.now) (written c.answer_words-answered.new.out)
     (record { told_is = told; assembly = assembly; begun = c.answer_words-answered.ensures.begun; appended = appended }) method has all
+
+pub returns-clause-linked : goal.returns-clause-linked
+returns-clause-linked g c = λ held all k bytes text method told are appended at has tell.
+    let words = words_bytes c.args.words.now in
+    let old = g.O.Sink.written c.args.out.now in
+    let new = g.O.Sink.written c.answer_words-answered.new.out in
+    linked_safe (words_at words (linked_files (AreLinkedOf.linked are))) all old new text appended
+    (begun_of (g.F.Files.held c.args.files.now) words held all old new told are c.answer_words-answered.ensures.linked) k bytes method at has tell
+
+pub returns-clause-linked_keeps : goal.returns-clause-linked_keeps
+returns-clause-linked_keeps g c = λ held all k bytes text method told are appended at has tell.
+    let words = words_bytes c.args.words.now in
+    let old = g.O.Sink.written c.args.out.now in
+    let new = g.O.Sink.written c.answer_words-answered.new.out in
+    linked_keeps (words_at words (linked_files (AreLinkedOf.linked are))) all old new text appended
+    (begun_of (g.F.Files.held c.args.files.now) words held all old new told are c.answer_words-answered.ensures.linked) k bytes method at has tell
 
 pub returns-clause-refuted : goal.returns-clause-refuted
 returns-clause-refuted g c = λ held bytes token told asks prints safe.
