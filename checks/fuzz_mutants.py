@@ -287,22 +287,26 @@ def code_mutant(chance, text, other):
 
 
 def unit_mutant(chance, forms, unit, other):
-    """A unit of other code, places, stack or clauses, in either form; sometimes with bytes changed, too."""
-    name, result, args, places, stack, callees, text = unit
+    """A unit of other code, places, stack or clauses, in a form of its; sometimes with bytes changed, too."""
     for _ in range(chance.choice([0, 1, 1, 1, 2, 3])):
-        pick = chance.randrange(16)
+        pick = chance.randrange(19)
         if pick < 13:
-            text = code_mutant(chance, text, other[6])
+            unit = unit._replace(code=code_mutant(chance, unit.code, other.code))
         elif pick == 13:
-            args = [chance.choice([1, 2, 3, 4]) for _ in range(chance.choice([0, 1, 2, 3, len(args), 200, 256]))]
+            count = chance.choice([0, 1, 2, 3, len(unit.args), 200, 256])
+            unit = unit._replace(args=[chance.choice([1, 2, 3, 4]) for _ in range(count)])
         elif pick == 14:
-            places, stack = chance.choice([places, other[3], [2] * 100]), chance.choice([stack, 0, 1, 8, 255])
+            unit = unit._replace(places=chance.choice([unit.places, other.places, [2] * 100]),
+                                 stack=chance.choice([unit.stack, 0, 1, 8, 255]))
+        elif pick == 15:
+            callees = [*unit.callees, *other.callees]
+            unit = unit._replace(callees=callees[: chance.randrange(1 + len(callees))])
         else:
-            callees = [*callees, *other[5]][: chance.randrange(1 + len(callees) + len(other[5]))]
-    data = forms.spelled((name, result, args, places, stack, callees, text), chance.choice([1, 2, 2])) or b"CCU2"
+            unit = unit._replace(added=chance.choice([[], other.added, forms.added_to(chance, unit)]))
+    data = chance.choice(forms.all_spelled(unit) or [b"CCU2"])
     if chance.random() < 0.3:
         data = bytearray(data)
-        change_bytes(chance, data, forms.spelled(other, 2))
+        change_bytes(chance, data, chance.choice(forms.all_spelled(other)))
     return bytes(data)
 
 

@@ -2,8 +2,8 @@
 //
 // usage: mono portable_symbols.exe FROM TO LIST [inside]
 //
-// The lines of the list are those that tools/source_lines.cs prints. TO.pdb is written too, or with `inside` the symbols
-// stand in TO itself.
+// The lines of the list are those that tools/source_lines.cs prints. TO.pdb is written too, or with `inside` the
+// symbols stand in TO itself.
 using System;
 using System.IO;
 using System.Collections.Generic;

@@ -33,7 +33,11 @@ method 06000001 Lines::Sum(int32,int32): unproved
   IL_0036 assert: unproved
   IL_003d overflow: unproved
 method 06000002 Lines::Part(int32[],int32): unproved
+  inferred ensures 2: result <= 100
+  inferred ensures 3: result < length of arg 0
   IL_0034 ensures 1: unproved
+  IL_0034 ensures 2 (inferred): proved
+  IL_0034 ensures 3 (inferred): unproved
 method 06000003 Lines::First(int32[]): unproved
   IL_0018 requires 1 of Lines::Part(int32[],int32): unproved
   IL_0018 requires 2 of Lines::Part(int32[],int32): unproved
@@ -53,6 +57,10 @@ Lines.cs(15,9): warning CC0009: not proved that the checked sum, difference or p
 Lines.cs(22,9): warning CC0002: not proved that the method's own Ensures holds at its return (ensures 1 at IL_0034)
         return numbers[at];
         condition: Contract.Result<int>() >= 0  [Lines.cs(21,9)]
+Lines.cs(22,9): warning CC0012: not proved that an Ensures that was inferred of the method holds at its return: \
+result < length of arg 0 (ensures 3 (inferred) at IL_0034)
+        return numbers[at];
+        condition: result < length of arg 0
   unproved Lines::First(int32[])
 Lines.cs(31,9): warning CC0001: not proved that a Requires of the called method holds \
 (requires 1 of Lines::Part(int32[],int32) at IL_0018)
@@ -71,6 +79,7 @@ Lines.dll
     IL_003d overflow
   unproved Lines::Part(int32[],int32)
     IL_0034 ensures 1
+    IL_0034 ensures 3 (inferred): result < length of arg 0
   unproved Lines::First(int32[])
     IL_0018 requires 1 of Lines::Part(int32[],int32)
     IL_0018 requires 2 of Lines::Part(int32[],int32)
@@ -193,14 +202,23 @@ def look_at_context(folder):
     words = ["--only", "unproved", "--read", "-"]
     text = report("--context", *words, given=whole(CONTRACTS), folder=folder)
     want(text == CONTEXT, f"--context prints\n{text}")
+    whole_text = report(*words[2:], given=whole(CONTRACTS), folder=folder)
+    want("\n      1 inferred ensures: an Ensures that was inferred of the method holds at its return.\n        Check "
+         in whole_text, f"no sum of inferred Ensures in\n{whole_text}")
     warnings = "".join(line for line in CONTEXT.splitlines(True) if not line.startswith("    "))
     want(report(*words, given=whole(CONTRACTS), folder=folder) == warnings, "lines without --context")
     run = look_at_log(json.loads(report("--sarif", "-", *words, given=whole(CONTRACTS), folder=folder)))
     messages = [it["message"]["text"] for it in run["results"]]
-    want("Lines::Sum(int32,int32): assert at IL_000f is not proved: low >= 0." in messages, f"messages {messages}")
+    for message in ("Lines::Sum(int32,int32): assert at IL_000f is not proved: low >= 0.",
+                    "Lines::Part(int32[],int32): ensures 3 (inferred) at IL_0034 is not proved: "
+                    "result < length of arg 0."):
+        want(message in messages, f"no {message!r} in {messages}")
     os.rename(os.path.join(folder, "Lines.cs"), os.path.join(folder, "moved.cs"))
     text = report("--context", *words, given=whole(CONTRACTS), folder=folder)
-    want("Lines.cs(9,9): warning CC0003: " in text and "condition:" not in text, f"without the source:\n{text}")
+    # What was inferred stands in the report.
+    found = re.findall(r"^ *condition: (.*)$", text, re.MULTILINE)
+    want("Lines.cs(9,9): warning CC0003: " in text and found == ["result < length of arg 0"],
+         f"without the source:\n{text}")
     os.rename(os.path.join(folder, "moved.cs"), os.path.join(folder, "Lines.cs"))
 
 
@@ -239,7 +257,8 @@ def look_at_numbers():
     listed = {words: f"CC{int(first) + at:04}" for first, last, row in rows for at, words in enumerate(row.split(", "))}
     for first, last, row in rows:
         want(int(last) - int(first) + 1 == len(row.split(", ")), f"docs/CI.md: CC{first} to CC{last} are other numbers")
-    texts = [f"{words} 1" if words in ("requires", "ensures") else words for words in listed]
+    clauses = {"requires": "requires 1", "ensures": "ensures 1", "inferred ensures": "ensures 2 (inferred)"}
+    texts = [clauses.get(words, words) for words in listed]
     given = "assembly a.dll\n" + "".join(
         f"method 06000001 A::b(): not analysed: {words}\n" if words[0] == "N" else
         f"method 06000001 A::b(): unproved\n  IL_0000 {words}: unproved\n" for words in texts)

@@ -64,7 +64,7 @@ def look_at_results(shop):
     with open(shop, encoding="ascii") as file:
         printed = file.read()
     run = look_at_log(log_of(printed))
-    want(len(run["tool"]["driver"]["rules"]) == 35, f"{len(run['tool']['driver']['rules'])} rules")
+    want(len(run["tool"]["driver"]["rules"]) == 36, f"{len(run['tool']['driver']['rules'])} rules")
     results = found(run)
     for wanted in [
         ("CC0003", "warning", "06000004 Shop::Sum(int32,int32)/IL_001b assert"),

@@ -11,6 +11,7 @@ FIRST_LINE = "# cccheck baseline 1, written by tools/report --write-baseline (do
 METHOD_LINE = re.compile(r"(\S+) (\S+?)(?: #(\d+))?: (proved|unproved|not analysed)$")
 OBLIGATION_LINE = re.compile(r"(\S+) (\S+?)(?: #(\d+))?: unproved (.+) (\d+) of (\d+)$")
 CONTRACTS_LINE = re.compile(r"(\S+): contracts$")
+# The kinds of contracts of the code. An Ensures that was inferred is none.
 CONTRACT_KINDS = ("requires", "ensures", "assert")
 # Printed names have these bytes alone, and so has the name of a file here.
 NOT_PRINTED = re.compile(rb"[^\x21-\x7e]")

@@ -22,11 +22,12 @@ def said_by(ran):
     return " ".join(line for line in lines if not line.startswith("--try: "))
 
 
-def checked(words, path):
+def checked(words, options, path):
     """The report of a file by the launcher."""
     if not os.path.lexists(path):
         return Report(path, [], f"missing file {path}")
-    ran = subprocess.run([*words, "check", path], capture_output=True, check=False, stdin=subprocess.DEVNULL)
+    infer = ["--infer"] if options.infer else []
+    ran = subprocess.run([*words, "check", path, *infer], capture_output=True, check=False, stdin=subprocess.DEVNULL)
     said = said_by(ran)
     if ran.returncode in (0, 1):
         report = reports_of(ran.stdout.decode("ascii", "replace"), path)[0]
@@ -75,7 +76,7 @@ def checked_files(options):
     program = need_program(options) if len(missing) < len(files) else ""
     words = launcher_words(options)
     with concurrent.futures.ThreadPoolExecutor(options.jobs) as pool:
-        reports = list(pool.map(lambda path: checked(words, path), files))
+        reports = list(pool.map(lambda path: checked(words, options, path), files))
     if program:
         look_up_calls(reports, program, options.jobs)
     return [report for report in reports if report.path in named or not report.is_refused]

@@ -14,6 +14,10 @@ KINDS = {
     "overflow": ("the checked sum, difference or product is an int", "Test the operands, or write them as `n & 1023`."),
     "shift": ("the amount of the shift is 0 to 31", "Write the amount as `n & 31`."),
     "array size": ("the length of the new array is not negative", "Test the length, or require 0 <= length."),
+    "inferred ensures": (
+        "an Ensures that was inferred of the method holds at its return",
+        "Check without --infer, or write an Ensures of what callers need.",
+    ),
 }
 # Why a method is not analysed, and what to write instead.
 DAMAGED = "Compile again: the file is damaged, or a tool has changed it."

@@ -11,6 +11,7 @@ KIND_NUMBERS = {
     "overflow": 9,
     "shift": 10,
     "array size": 11,
+    "inferred ensures": 12,
 }
 REASON_NUMBERS = {
     "N1 instance": 101,

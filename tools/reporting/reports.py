@@ -13,6 +13,10 @@ METHOD = re.compile(r"method ([0-9a-f]{8}) (\S+): (proved|unproved|not analysed:
 UNIT = re.compile(r"unit (\S+): (proved|unproved)$")
 OBLIGATION = re.compile(r"  IL_([0-9a-f]{4,}) (.+): (proved|unproved)$")
 KIND = re.compile(r"(requires|ensures) \d+(?: of \S+)?$")
+# An Ensures that was inferred, and is none of the code: its line, the words of its obligations, and their kind.
+INFERRED = re.compile(r"  inferred ensures (\d+): (result .+)$")
+INFERRED_CLAUSE = re.compile(r"ensures (\d+) \(inferred\)$")
+INFERRED_KIND = "inferred ensures"
 SUMMARY = re.compile(r"summary: (\d+) methods, (\d+) proved, (\d+) unproved, (\d+) not analysed, (\d+) obligations, "
                      r"(\d+) proved$")
 # What stderr says of a file that has no report, of a report that is cut short, beside a report, and before one.
@@ -28,12 +32,16 @@ class Obligation:
     offset: int
     text: str
     proved: bool
+    # What an inferred Ensures says, where the report has it.
+    condition: str = ""
     # A run that faults here: the name of the method that was run, and how it ended.
     witness: tuple[str, Refutation] | None = None
 
     @property
     def kind(self):
         """The words of KINDS, without the number of a clause."""
+        if INFERRED_CLAUSE.match(self.text):
+            return INFERRED_KIND
         clause = KIND.match(self.text)
         return clause.group(1) if clause else self.text
 
@@ -47,6 +55,8 @@ class Method:
     opcode: str = ""
     offset: int | None = None
     obligations: list = dataclasses.field(default_factory=list)
+    # What the inferred Ensures say, by their numbers.
+    inferred: dict = dataclasses.field(default_factory=dict)
     refutation: Refutation | None = None
     # Of a method that is not analysed: the instruction that is to blame, where it was looked up, and what was written.
     instruction: str = ""
@@ -129,8 +139,22 @@ class Reader:
         elif not NO_NOTE.match(line):
             raise ValueError(line)
 
+    def add_to_method(self, line):
+        """A line that belongs to the method before it."""
+        inferred, obligation = INFERRED.match(line), OBLIGATION.match(line)
+        if not self.is_open or not self.reports[-1].methods or not (inferred or obligation):
+            raise ValueError(f"no line of a report: {line}")
+        method = self.reports[-1].methods[-1]
+        if inferred:
+            method.inferred[int(inferred.group(1))] = inferred.group(2)
+        else:
+            offset, words, verdict = obligation.groups()
+            number = INFERRED_CLAUSE.match(words)
+            condition = method.inferred.get(int(number.group(1)), "") if number else ""
+            method.obligations.append(Obligation(int(offset, 16), words, verdict == "proved", condition))
+
     def line(self, line):
-        method, obligation, summary = method_of(line), OBLIGATION.match(line), SUMMARY.match(line)
+        method, summary = method_of(line), SUMMARY.match(line)
         if line.startswith("cccheck: "):
             self.said(line)
         elif summary:
@@ -143,11 +167,8 @@ class Reader:
             if not self.is_open:
                 raise ValueError(f"no line `assembly FILE` before: {line}")
             self.reports[-1].methods.append(method)
-        elif obligation and self.is_open and self.reports[-1].methods:
-            offset, words, verdict = obligation.groups()
-            self.reports[-1].methods[-1].obligations.append(Obligation(int(offset, 16), words, verdict == "proved"))
         else:
-            raise ValueError(f"no line of a report: {line}")
+            self.add_to_method(line)
 
 
 def counts_of(report):

@@ -59,7 +59,12 @@ def clauses_of(lines, token, name):
 
 
 def condition_of(report, method, obligation):
-    """The condition that an obligation asks for, and the place of its contract; or None, as for an index."""
+    """The condition that an obligation asks for, and the place of its contract; or None, as for an index.
+
+    That of an inferred Ensures stands in the report, and its place is that of the return.
+    """
+    if obligation.condition:
+        return obligation.condition, report.lines.at(method.token, obligation.offset)
     clause = CLAUSE.match(obligation.text)
     if clause:
         kind, number, callee = clause.groups()

@@ -39,12 +39,14 @@ class Printer:
         """In the form that MSBuild and editors read, where the line is known."""
         place = report.lines.at(method.token, it.offset)
         label = f"IL_{it.offset:04x}"
-        found = outcome_text(method, it) if it.witness else ""
+        # No source says what an inferred Ensures asks.
+        found = outcome_text(method, it) if it.witness else it.condition
         if not place:
             print(f"    {label} {it.text}{found and ': ' + found}")
             return
-        asks = KINDS.get(it.kind, OTHER_KIND)[0]
-        print(f"{place}: warning {kind_number(it.kind)}: {found or 'not proved that ' + asks} ({it.text} at {label})")
+        asks = f"not proved that {KINDS.get(it.kind, OTHER_KIND)[0]}"
+        said = f"{asks}: {it.condition}" if it.condition else found or asks
+        print(f"{place}: warning {kind_number(it.kind)}: {said} ({it.text} at {label})")
         if self.has_context:
             self.context(report, method, it, place)
 

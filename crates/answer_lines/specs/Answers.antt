@@ -13,7 +13,7 @@ abbrev pub error_line : List ℕ → List ℕ
 error_line text = codes "cccheck: " ++ text ++ codes "\n"
 
 abbrev pub USAGE : List ℕ
-USAGE = error_line (codes "usage: check FILE.. [--cache F] [--show] [--proof F] [--ref FILE].. | verify FILE F | run FILE METHOD ARG.. [--steps N] | list FILE | il FILE METHOD | unit FILE | gen SEED COUNT | refute FILE METHOD [--runs N]")
+USAGE = error_line (codes "usage: check FILE.. [--cache F] [--show] [--proof F] [--ref FILE].. [--infer] | verify FILE F | run FILE METHOD ARG.. [--steps N] | list FILE | il FILE METHOD | unit FILE | gen SEED COUNT | refute FILE METHOD [--runs N]")
 
 abbrev pub missing_line : List ℕ → List ℕ
 missing_line name = error_line (codes "missing file " ++ escaped name)

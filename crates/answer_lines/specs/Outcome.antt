@@ -47,8 +47,8 @@ pub record IsUnreplaced (answer : Answer) (result : Result ℕ Interrupt) (out e
   pub out_kept : Kept out.faults_before out.faults_after
   pub err_kept : Kept err.faults_before err.faults_after
 
--- The call gave what is expected, or the answer that one of these files was not read, only where a device refused a read
--- in it, or was interrupted after all that is expected, only where one refused to replace a file.
+-- The call gave what is expected, or the answer that one of these files was not read, only where a device refused a
+-- read in it, or was interrupted after all that is expected, only where one refused to replace a file.
 abbrev pub GivesOrFails : Answer → List (List ℕ) → Type 0 → Type 0 → Result ℕ Interrupt → Change → Change → Type 0
 GivesOrFails expected names unread unreplaced result out err =
     GivesOrUnread expected names unread result out err ⊎ (unreplaced × IsUnreplaced expected result out err)

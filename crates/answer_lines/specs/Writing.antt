@@ -32,8 +32,8 @@ pub record Change : Type 0 where
   pub faults_before : ℕ
   pub faults_after : ℕ
 
--- The change of a sink, of which `written` tells what it was given, `puts` how often that was, and `faults` how often it
--- refused.
+-- The change of a sink, of which `written` tells what it was given, `puts` how often that was, and `faults` how often
+-- it refused.
 abbrev pub change_of : {S : Type 0} → (S → Option (List ℕ)) → (S → Option ℕ) → (S → ℕ) → S → S → Change
 change_of written puts faults before after = record {
   old = written before;

@@ -8,7 +8,7 @@ use std::alloc::{AllocError, Global};
 
 /// The usage of the program.
 pub const USAGE: &[u8] =
-    b"cccheck: usage: check FILE.. [--cache F] [--show] [--proof F] [--ref FILE].. | verify FILE F | run FILE METHOD ARG.. [--steps N] | list FILE | il FILE METHOD | unit FILE | gen SEED COUNT | refute FILE METHOD [--runs N]\n";
+    b"cccheck: usage: check FILE.. [--cache F] [--show] [--proof F] [--ref FILE].. [--infer] | verify FILE F | run FILE METHOD ARG.. [--steps N] | list FILE | il FILE METHOD | unit FILE | gen SEED COUNT | refute FILE METHOD [--runs N]\n";
 
 /// What is written where a sink refused.
 pub const UNWRITTEN: &[u8] = b"cccheck: cannot write\n";

@@ -1,4 +1,5 @@
--- Loads and stores keep what segments say true: a loaded set has the item, and behind a store they hold of the items behind it.
+-- Loads and stores keep what segments say true: a loaded set has the item, and behind a store they hold of the items
+-- behind it.
 use Rattle.std.proofs.Common.{◌≡◌, ◌≢◌, ℕ, ◌<◌, ℤ, pos, Bool, ◌⊎◌, inl, List, [], ◌∷◌, length, set, arith, get_or-set_other, get_or-set_same, length-set, Option}
 use Rattle.domain_api.specs.declared.expr.Expr.{Expr}
 use Rattle.array_segments.specs.Loading.{loaded, start, stop}

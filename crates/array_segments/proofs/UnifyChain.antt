@@ -1,4 +1,5 @@
--- The common bounds that are kept, one after another: they do not fall on either side, and the last of all is the last of both.
+-- The common bounds that are kept, one after another: they do not fall on either side, and the last of all is the last
+-- of both.
 use Rattle.std.proofs.Common.{◌≡◌, ℕ, zero, suc, ◌+◌, ◌<◌, ◌≤◌, Bool, true, false, nat_lt, List, [], ◌∷◌, ◌++◌, length, arith, refl, sym, subst, ap, if◌then◌else◌}
 use Rattle.std.proofs.lemmas.Bool.{ltb-false, ltb-true}
 use Rattle.domain_api.specs.declared.expr.Expr.{Expr}

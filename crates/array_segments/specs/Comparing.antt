@@ -1,5 +1,5 @@
--- Comparisons of expressions and bounds, as far as gaps show them. A gap of two symbols is a number that may be added to the first without
--- passing the second.
+-- Comparisons of expressions and bounds, as far as gaps show them. A gap of two symbols is a number that may be added
+-- to the first without passing the second.
 use Rattle.std.specs.Prelude.{ℕ, ℤ, pos, ◌+ℤ◌, ◌-ℤ◌, int_le, Bool, false, ◌&&◌, List, Option, None, Some}
 use Rattle.std.specs.List.{list_any}
 use Rattle.domain_api.specs.declared.expr.Expr.{Expr}

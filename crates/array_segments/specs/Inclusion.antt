@@ -47,14 +47,16 @@ abbrev pub all_equal : (ℕ → ℕ → Option ℤ) → List (Option Expr) → L
 all_equal gap names [] = true
 all_equal gap names (expr ∷ exprs) = equals_rest gap names expr exprs && all_equal gap names exprs
 
--- Tells whether some expression of the first bound is shown to be at most one of the second, and below one, each bound in its names.
+-- Tells whether some expression of the first bound is shown to be at most one of the second, and below one, each bound
+-- in its names.
 abbrev pub leads : (ℕ → ℕ → Option ℤ) → (Expr → Option Expr) → (Expr → Option Expr) → List Expr → List Expr → Bool
 leads gap name other first second = list_any (λ a. list_any (λ b. both_at_most gap (name a) (other b)) second) first
 
 abbrev pub leads_strictly : (ℕ → ℕ → Option ℤ) → (Expr → Option Expr) → (Expr → Option Expr) → List Expr → List Expr → Bool
 leads_strictly gap name other first second = list_any (λ a. list_any (λ b. both_below gap (name a) (other b)) second) first
 
--- The last bound that is shown to be at most one of the other side, or the first; and the first that is shown to be at least one, or the last.
+-- The last bound that is shown to be at most one of the other side, or the first; and the first that is shown to be at
+-- least one, or the last.
 abbrev pub last_before : {C : Type 0} → (ℕ → ℕ → Option ℤ) → List (Option Expr) → Lists C → List Expr → ℕ
 last_before gap names lists bound = last_place (λ x. leads gap as_own (mapped names) x bound) 0 0 lists.bounds
 
@@ -68,8 +70,8 @@ abbrev pub are_within : {C : Type 0} → (C → C → Bool) → (ℕ → ℕ →
 are_within within gap names lists content low high =
     list_all (λ mine. within mine content) (slice_range lists.contents (last_before gap names lists low) (first_behind gap names lists high))
 
--- Tells whether a segment of the other side, behind a bound, is shown to hold: the bounds are in order, strictly unless it may be empty; and unless it is shown to be empty,
--- its content has what these segments have there.
+-- Tells whether a segment of the other side, behind a bound, is shown to hold: the bounds are in order, strictly unless
+-- it may be empty; and unless it is shown to be empty, its content has what these segments have there.
 abbrev pub is_shown : {C : Type 0} → (C → C → Bool) → (ℕ → ℕ → Option ℤ) → List (Option Expr) → Lists C → List Expr → Segment C → Bool
 is_shown within gap names lists low segment =
     (leads gap (mapped names) (mapped names) low segment.upper && (segment.may_be_empty || leads_strictly gap (mapped names) (mapped names) low segment.upper))

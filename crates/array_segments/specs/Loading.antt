@@ -19,11 +19,13 @@ first_place test place (x ∷ xs) = if test x then place else first_place test (
 abbrev pub starts : {C : Type 0} → Lists C → List (List Expr)
 starts lists = take (length lists.contents) lists.bounds
 
--- Where the segments begin that may have the item at the index: at the last start that is shown to be at most the index, or at the first.
+-- Where the segments begin that may have the item at the index: at the last start that is shown to be at most the
+-- index, or at the first.
 abbrev pub start : {C : Type 0} → (ℕ → ℕ → Option ℤ) → Lists C → Expr → ℕ
 start gap lists at = last_place (starts_by gap at) 0 0 (starts lists)
 
--- Where they end, if they begin at a place: at the first bound above it that is shown to be above the index, or at the last.
+-- Where they end, if they begin at a place: at the first bound above it that is shown to be above the index, or at the
+-- last.
 abbrev pub stop_from : {C : Type 0} → (ℕ → ℕ → Option ℤ) → Lists C → Expr → ℕ → ℕ
 stop_from gap lists at from = first_place (ends_behind gap at) (from + 1) (drop (from + 1) (starts lists))
 

@@ -12,7 +12,8 @@ abbrev pub joined : {C : Type 0} → (C → C → C) → Option (Part C) → Par
 joined hull None part = part
 joined hull (Some before) part = record { content = hull before.content part.content; mark = before.mark && part.mark }
 
--- A segment up to the bound, and the others behind it; or where the bound has no expression, what comes of those with the part before them.
+-- A segment up to the bound, and the others behind it; or where the bound has no expression, what comes of those with
+-- the part before them.
 abbrev pub placed : {C : Type 0} → Part C → List Expr → List (Segment C) → List (Segment C) → List (Segment C)
 placed part [] grown fresh = grown
 placed part (expr ∷ exprs) grown fresh = record { content = part.content; may_be_empty = part.mark; upper = expr ∷ exprs } ∷ fresh

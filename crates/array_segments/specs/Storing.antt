@@ -37,8 +37,8 @@ around left right before middle behind = (if left then before ∷ [] else []) ++
 abbrev pub new_bounds : Bool → Bool → Expr → List (List Expr)
 new_bounds left right at = (if left then (at ∷ []) ∷ [] else []) ++ (if right then (next_of at ∷ []) ∷ [] else [])
 
--- There is a part before the index, unless it is shown to be the bound where the segments begin that are replaced; and one behind it, unless the
--- next index is shown to be the bound where they end.
+-- There is a part before the index, unless it is shown to be the bound where the segments begin that are replaced; and
+-- one behind it, unless the next index is shown to be the bound where they end.
 abbrev pub has_left : {C : Type 0} → (ℕ → ℕ → Option ℤ) → Lists C → Expr → ℕ → Bool
 has_left gap lists at from = not (meets gap at (get_or lists.bounds from []))
 
@@ -52,7 +52,8 @@ left_mark gap lists at from = not (starts_before gap at (get_or lists.bounds fro
 abbrev pub right_mark : {C : Type 0} → (ℕ → ℕ → Option ℤ) → Lists C → Expr → ℕ → Bool
 right_mark gap lists at to = not (ends_behind gap (next_of at) (get_or lists.bounds to []))
 
--- The segments from one place to another replaced: by the one of the index, which has the value alone, and by what lay before and behind it, each with the hull of all of them.
+-- The segments from one place to another replaced: by the one of the index, which has the value alone, and by what lay
+-- before and behind it, each with the hull of all of them.
 abbrev pub replaced_by : {C : Type 0} → (C → C → C) → C → Lists C → Expr → C → ℕ → ℕ → Bool → Bool → Bool → Bool → Lists C
 replaced_by hull full lists at value from to left right before_mark behind_mark =
     let outer = hull_between hull full lists.contents from to in

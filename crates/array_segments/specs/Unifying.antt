@@ -16,7 +16,8 @@ abbrev pub make_of : {C : Type 0} → Merge → (C → C → C) → (C → C →
 make_of Hull hull widened = hull
 make_of Widening hull widened = widened
 
--- What both sides have, each by the hull of its segments between two places; where a side has no segment there, what the other one has.
+-- What both sides have, each by the hull of its segments between two places; where a side has no segment there, what
+-- the other one has.
 abbrev pub of_both : {C : Type 0} → (C → C → C) → C → Option C → Option C → C
 of_both make full (Some a) (Some b) = make a b
 of_both make full (Some a) None = a
@@ -41,8 +42,8 @@ module _ {C : Type 0} (hull make : C → C → C) (full : C) (pairs : Pairing) (
   placed_at last place [] without behind = without
   placed_at last place (expr ∷ exprs) without behind = common_segment last place.first place.second (expr ∷ exprs) ∷ behind
 
-  -- The segments between the common bounds among these places, where the last one that was kept is at a place. One is kept where it does not
-  -- fall below that in the second side.
+  -- The segments between the common bounds among these places, where the last one that was kept is at a place. One is
+  -- kept where it does not fall below that in the second side.
   abbrev pub common_segments : Place → List Place → List (Segment C)
   common_segments last [] = []
   common_segments last (place ∷ places) =

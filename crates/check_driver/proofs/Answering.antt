@@ -20,10 +20,11 @@ use Rattle.command_words.specs.declared.linked_words.LinkedWords.{LinkedWords}
 use Rattle.proof_files.specs.Reading.{ProofRead}
 use Rattle.result_cache.specs.Entries.{Entry}
 use Rattle.unit_verdicts.specs.Asked.{distinct, without_entry}
-use Rattle.unit_verdicts.specs.Picks.{Manner}
+use Rattle.unit_verdicts.specs.Picks.{Manner, Pick, pick_of}
 use Rattle.unit_verdicts.specs.VerdictCache.{manner_under}
 use Rattle.unit_verdicts.specs.declared.source.Source.TheVariants.{Cache as OfCache}
-use Rattle.check_driver.specs.Asked.{asked_by, asked_unless, bytes_asked, check_asked, check_keys, files_asked, judged_keys, keys_before, linked_asked, linked_keys, unit_file_asked}
+use Rattle.check_driver.specs.Asked.{asked_by, asked_unless, bytes_asked, check_asked, check_keys, files_asked, keys_before, linked_asked, linked_keys, unit_file_asked}
+use Rattle.assembly_reports.specs.JudgedUnits.{judged_keys}
 use Rattle.check_driver.specs.CacheMet.{CallMet, cache_entries, cache_refusal, command_cache, command_proof}
 use Rattle.check_driver.specs.CallRead.{IsReadIndex, cache_bytes}
 use Rattle.check_driver.specs.Expected.{missing_or, expected, unit_file_answer, check_answer, check_manner, checked_before, bytes_answer, files_answer, file_at, verify_answer}
@@ -49,25 +50,25 @@ unit_cut name bytes limit is past =
     too_large name bytes past ∙ sym (too_large name (take limit bytes) (omega (arith, length-take limit bytes)))
 
 -- So has an assembly, and what comes after it.
-checked_cut : (name : List ℕ) (manner : Manner) (others : Answer) (bytes : List ℕ) (limit : ℕ) → limit ≡ READ_LIMIT → READ_LIMIT ≤ length bytes
-    → checked_before name manner bytes (FirstBroken bytes) others ≡ checked_before name manner (take limit bytes) (FirstBroken (take limit bytes)) others
-checked_cut name manner others bytes limit is past =
+checked_cut : (infer : Bool) (name : List ℕ) (manner : Manner) (others : Answer) (bytes : List ℕ) (limit : ℕ) → limit ≡ READ_LIMIT → READ_LIMIT ≤ length bytes
+    → checked_before infer name manner bytes (FirstBroken bytes) others ≡ checked_before infer name manner (take limit bytes) (FirstBroken (take limit bytes)) others
+checked_cut infer name manner others bytes limit is past =
     let whole = large_first bytes past in
     let cut = large_first (take limit bytes) (omega (arith, length-take limit bytes)) in
     rw (whole, cut) refl
 
 -- So has each of several files.
-check_alike : (manner : Manner) (names : List (List ℕ)) (met : List (Option (List ℕ))) (read : List (Vec ℕ Global)) → AreContents met read
-    → check_answer manner names (contents met) ≡ check_answer manner names (bytes_read read)
-check_alike manner [] met read h = refl
-check_alike manner (name ∷ names) [] [] h = refl
-check_alike manner (name ∷ names) (under ∷ met) (bytes ∷ read) h =
+check_alike : (infer : Bool) (manner : Manner) (names : List (List ℕ)) (met : List (Option (List ℕ))) (read : List (Vec ℕ Global)) → AreContents met read
+    → check_answer infer manner names (contents met) ≡ check_answer infer manner names (bytes_read read)
+check_alike infer manner [] met read h = refl
+check_alike infer manner (name ∷ names) [] [] h = refl
+check_alike infer manner (name ∷ names) (under ∷ met) (bytes ∷ read) h =
     let whole = unwrap_or under [] in
-    ap (checked_before name manner whole (FirstBroken whole)) (check_alike manner names met read h.1)
-    ∙ file_alike (λ b. checked_before name manner b (FirstBroken b) (check_answer manner names (bytes_read read))) under bytes.items
-    (λ b past. checked_cut name manner (check_answer manner names (bytes_read read)) b READ_LIMIT refl past) h.0
-check_alike manner (name ∷ names) [] (bytes ∷ read) h = absurd h
-check_alike manner (name ∷ names) (under ∷ met) [] h = absurd h
+    ap (checked_before infer name manner whole (FirstBroken whole)) (check_alike infer manner names met read h.1)
+    ∙ file_alike (λ b. checked_before infer name manner b (FirstBroken b) (check_answer infer manner names (bytes_read read))) under bytes.items
+    (λ b past. checked_cut infer name manner (check_answer infer manner names (bytes_read read)) b READ_LIMIT refl past) h.0
+check_alike infer manner (name ∷ names) [] (bytes ∷ read) h = absurd h
+check_alike infer manner (name ∷ names) (under ∷ met) [] h = absurd h
 
 check_met_alike : (check : CheckWords) (words : List (List ℕ)) (met : CallMet) (read : List (Vec ℕ Global)) (cache : Option (Vec ℕ Global)) → AreContents met.files read
     → IsCacheContent met.cache cache
@@ -76,9 +77,10 @@ check_met_alike check words met read cache h is =
     let name = command_cache words (commands.Check check) in
     let names = words_at words (check_files check) in
     let show = is_some check.show in
-    ap (λ (line : List ℕ). after_line line (check_answer (check_manner check met.cache) names (contents met.files))) (refusal_alike name met.cache cache is)
-    ∙ ap (λ (entries : List Entry). after_line (cache_refusal name (cache_bytes cache)) (check_answer (manner_under show (OfCache entries)) names (contents met.files))) (entries_alike met.cache cache is)
-    ∙ ap (after_line (cache_refusal name (cache_bytes cache))) (check_alike (check_manner check (cache_bytes cache)) names met.files read h)
+    let infer = is_some check.infer in
+    ap (λ (line : List ℕ). after_line line (check_answer infer (check_manner check met.cache) names (contents met.files))) (refusal_alike name met.cache cache is)
+    ∙ ap (λ (entries : List Entry). after_line (cache_refusal name (cache_bytes cache)) (check_answer infer (manner_under show (OfCache entries)) names (contents met.files))) (entries_alike met.cache cache is)
+    ∙ ap (after_line (cache_refusal name (cache_bytes cache))) (check_alike infer (check_manner check (cache_bytes cache)) names met.files read h)
 
 -- So have linked files, none of which is reported where one was cut off.
 linked_alike : (manner : Manner) (names : List (List ℕ)) (met : List (Option (List ℕ))) (read : List (Vec ℕ Global)) → AreContents met read
@@ -142,9 +144,9 @@ unit_asked_cut bytes limit is past =
     let cut = le-leb READ_LIMIT (length (take limit bytes)) (omega (arith, length-take limit bytes)) in
     rw (whole, cut) refl
 
-keys_cut : (others : List (List ℕ)) (bytes : List ℕ) (limit : ℕ) → limit ≡ READ_LIMIT → READ_LIMIT ≤ length bytes
-    → keys_before bytes (FirstBroken bytes) others ≡ keys_before (take limit bytes) (FirstBroken (take limit bytes)) others
-keys_cut others bytes limit is past =
+keys_cut : (infer : Bool) (pick : Pick) (others : List (List ℕ)) (bytes : List ℕ) (limit : ℕ) → limit ≡ READ_LIMIT → READ_LIMIT ≤ length bytes
+    → keys_before infer pick bytes (FirstBroken bytes) others ≡ keys_before infer pick (take limit bytes) (FirstBroken (take limit bytes)) others
+keys_cut infer pick others bytes limit is past =
     let whole = large_first bytes past in
     let cut = large_first (take limit bytes) (omega (arith, length-take limit bytes)) in
     rw (whole, cut) refl
@@ -155,22 +157,25 @@ accepted_cut bytes limit is past =
     let cut = large_first (take limit bytes) (omega (arith, length-take limit bytes)) in
     rw (whole, cut) refl
 
-pub keys_alike : (met : List (Option (List ℕ))) (read : List (Vec ℕ Global)) → AreContents met read → check_keys (contents met) ≡ check_keys (bytes_read read)
-keys_alike [] [] h = refl
-keys_alike (under ∷ met) (bytes ∷ read) h =
+pub keys_alike : (infer : Bool) (pick : Pick) (met : List (Option (List ℕ))) (read : List (Vec ℕ Global)) → AreContents met read
+    → check_keys infer pick (contents met) ≡ check_keys infer pick (bytes_read read)
+keys_alike infer pick [] [] h = refl
+keys_alike infer pick (under ∷ met) (bytes ∷ read) h =
     let whole = unwrap_or under [] in
-    ap (keys_before whole (FirstBroken whole)) (keys_alike met read h.1)
-    ∙ file_alike (λ b. keys_before b (FirstBroken b) (check_keys (bytes_read read))) under bytes.items
-    (λ b past. keys_cut (check_keys (bytes_read read)) b READ_LIMIT refl past) h.0
-keys_alike [] (bytes ∷ read) h = absurd h
-keys_alike (under ∷ met) [] h = absurd h
+    ap (keys_before infer pick whole (FirstBroken whole)) (keys_alike infer pick met read h.1)
+    ∙ file_alike (λ b. keys_before infer pick b (FirstBroken b) (check_keys infer pick (bytes_read read))) under bytes.items
+    (λ b past. keys_cut infer pick (check_keys infer pick (bytes_read read)) b READ_LIMIT refl past) h.0
+keys_alike infer pick [] (bytes ∷ read) h = absurd h
+keys_alike infer pick (under ∷ met) [] h = absurd h
 
 asked_alike : (command : Command) (met : CallMet) (read : List (Vec ℕ Global)) (cache : Option (Vec ℕ Global)) → AreContents met.files read → IsCacheContent met.cache cache
     → bytes_asked command met.cache (contents met.files) ≡ bytes_asked command (cache_bytes cache) (bytes_read read)
 asked_alike (commands.Unit file) met read cache h is = first_alike unit_file_asked met.files read (λ bytes past. unit_asked_cut bytes READ_LIMIT refl past) h
 asked_alike (commands.Check check) met read cache h is =
-    ap (λ (entries : List Entry). check_asked entries (contents met.files)) (entries_alike met.cache cache is)
-    ∙ ap (λ (keys : List (List ℕ)). without_entry (cache_entries (cache_bytes cache)) (distinct keys)) (keys_alike met.files read h)
+    let infer = is_some check.infer in
+    let entries = cache_entries (cache_bytes cache) in
+    ap (λ (es : List Entry). check_asked infer es (contents met.files)) (entries_alike met.cache cache is)
+    ∙ ap (λ (keys : List (List ℕ)). without_entry entries (distinct keys)) (keys_alike infer (pick_of entries) met.files read h)
 asked_alike (commands.Linked linked) met read cache h is =
     ap (λ (entries : List Entry). linked_asked entries (contents met.files)) (entries_alike met.cache cache is)
     ∙ ap (λ (keys : List (List ℕ)). without_entry (cache_entries (cache_bytes cache)) (distinct keys)) (linked_keys_alike met.files read h)
@@ -194,11 +199,13 @@ left_alike : (command : Command) (words : List (List ℕ)) (met : CallMet) (read
     → IsCacheContent met.cache cache → bytes_left command words met.cache (contents met.files) ≡ bytes_left command words (cache_bytes cache) (bytes_read read)
 left_alike (commands.Check check) words met read cache h is =
     let command = commands.Check check in
+    let infer = is_some check.infer in
     let proof = command_proof words command in
     let name = command_cache words command in
-    ap (λ (entries : List Entry). left_where (are_accepted (contents met.files)) proof name (OfCache entries) (distinct (check_keys (contents met.files)))) (entries_alike met.cache cache is)
-    ∙ ap (λ (accepted : Bool). left_where accepted proof name (OfCache (cache_entries (cache_bytes cache))) (distinct (check_keys (contents met.files)))) (accepted_alike met.files read h)
-    ∙ ap (λ (keys : List (List ℕ)). left_where (are_accepted (bytes_read read)) proof name (OfCache (cache_entries (cache_bytes cache))) (distinct keys)) (keys_alike met.files read h)
+    let entries = cache_entries (cache_bytes cache) in
+    ap (λ (es : List Entry). left_where (are_accepted (contents met.files)) proof name (OfCache es) (distinct (check_keys infer (pick_of es) (contents met.files)))) (entries_alike met.cache cache is)
+    ∙ ap (λ (accepted : Bool). left_where accepted proof name (OfCache entries) (distinct (check_keys infer (pick_of entries) (contents met.files)))) (accepted_alike met.files read h)
+    ∙ ap (λ (keys : List (List ℕ)). left_where (are_accepted (bytes_read read)) proof name (OfCache entries) (distinct keys)) (keys_alike infer (pick_of entries) met.files read h)
 left_alike (commands.Linked linked) words met read cache h is =
     let command = commands.Linked linked in
     let proof = command_proof words command in

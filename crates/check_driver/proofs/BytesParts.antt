@@ -1,8 +1,7 @@
 -- Answers to a command for what was read, by the answers of its parts.
-use Rattle.std.proofs.Common.{◌≡◌, ◌≢◌, ℕ, List, [], ◌∷◌, length, Vec, Global, Option, None, Result, if◌then◌else◌, slice_index_or, refl, sym, subst, ◌∙◌, ap, inl}
+use Rattle.std.proofs.Common.{◌≡◌, ◌≢◌, ℕ, List, [], ◌∷◌, length, Vec, Global, Option, None, false, is_some, Result, slice_index_or, refl, sym, subst, ◌∙◌, ap, inl}
 use Rattle.std.specs.Prelude.{IfOk}
 use Rattle.cc_base.specs.Files.{Held}
-use Rattle.answer_lines.specs.Answers.{Answer}
 use Rattle.answer_lines.specs.Outcome.{Gives}
 use Rattle.answer_lines.specs.Writing.{Change}
 use Rattle.answer_lines.specs.declared.interrupt.Interrupt.{Interrupt}
@@ -17,7 +16,7 @@ use Rattle.command_words.specs.declared.command.RunWords.{RunWords}
 use Rattle.command_words.specs.declared.linked_words.LinkedWords.{LinkedWords}
 use Rattle.proof_files.specs.Reading.{ProofRead}
 use Rattle.check_driver.specs.BytesAnswered.{AnswersBytes}
-use Rattle.check_driver.specs.CheckText.{all_methods_proved}
+use Rattle.assembly_reports.specs.CheckText.{all_methods_proved}
 use Rattle.check_driver.specs.Expected.{bytes_answer, check_manner, file_at, gen_answer, unit_file_answer, verify_answer}
 use Rattle.check_driver.specs.FilesLeft.{AnswerLeaves, GivesOrUnreplaced, bytes_left}
 use Rattle.check_driver.specs.Met.{bytes_read}
@@ -92,13 +91,13 @@ module _ (words : List (List ℕ)) (cache : Option (List ℕ)) (files : List (Li
 
   pub gen_answered : (seed count : ℕ) → Gives (gen_answer (generated_file seed count)) r out err → Answered (commands.Gen seed count) words cache files unreplaced r out err old old
   gen_answered seed count gives =
-      plain_answered (commands.Gen seed count) words cache files unreplaced r out err old refl (of_report (all_methods_proved limit_pick (generated_file seed count))) gives
+      plain_answered (commands.Gen seed count) words cache files unreplaced r out err old refl (of_report (all_methods_proved false limit_pick (generated_file seed count))) gives
 
   pub check_words_answered : (check : CheckWords) (new : Option Held) → GivesOrUnreplaced (bytes_answer (commands.Check check) words cache None files) unreplaced r out err
       → AnswerLeaves (bytes_left (commands.Check check) words cache files) (bytes_answer (commands.Check check) words cache None files).out r out old new
       → Answered (commands.Check check) words cache files unreplaced r out err old new
   check_words_answered check new gives left =
-      check_answered (commands.Check check) words cache files unreplaced r out err old new (of_check (check_manner check cache) (words_at words (check_files check)) files) gives left
+      check_answered (commands.Check check) words cache files unreplaced r out err old new (of_check (is_some check.infer) (check_manner check cache) (words_at words (check_files check)) files) gives left
 
   pub linked_words_answered : (linked : LinkedWords) (new : Option Held) → GivesOrUnreplaced (bytes_answer (commands.Linked linked) words cache None files) unreplaced r out err
       → AnswerLeaves (bytes_left (commands.Linked linked) words cache files) (bytes_answer (commands.Linked linked) words cache None files).out r out old new

@@ -14,7 +14,7 @@ use Rattle.command_words.specs.declared.command.Command.{Command}
 use Rattle.command_words.specs.declared.command.Command.TheVariants as commands
 use Rattle.unit_verdicts.specs.Asked.{distinct}
 use Rattle.unit_verdicts.specs.CacheFile.{AreHonest, IsHonestFile}
-use Rattle.unit_verdicts.specs.Picks.{limit_manner}
+use Rattle.unit_verdicts.specs.Picks.{limit_manner, pick_of}
 use Rattle.unit_verdicts.specs.VerdictCache.{manner_under}
 use Rattle.unit_verdicts.specs.declared.source.Source.{Source}
 use Rattle.unit_verdicts.specs.declared.source.Source.TheVariants.{Cache as OfCache}
@@ -26,7 +26,7 @@ use Rattle.check_driver.specs.FilesLeft.{AnswerLeaves, FrontIsLeft, LeavesFiles,
 use Rattle.check_driver.specs.HonestCaches.{AreAlike, AsksWithoutCache, HoldsHonest, HonestWhereHonest, IsCacheHonest, WritesAs}
 use Rattle.check_driver.specs.Known.{AnswerKnows, FilesKnown, KnowsCheck, WordsKnow, known_unless}
 use Rattle.check_driver.specs.Met.{AreUnder, contents, first_missing}
-use Rattle.check_driver.proofs.AlikeReports.{agree_honest, alike_answers}
+use Rattle.check_driver.proofs.AlikeReports.{agree_honest, alike_answers, one_pick_honest}
 use Rattle.check_driver.proofs.DistinctKeys.{all_contained}
 
 -- ---- what is left
@@ -60,7 +60,8 @@ unless_none (Some name) left none = refl
 bytes_none : (command : Command) (words : List (List ℕ)) (cache : Option (List ℕ)) (files : List (List ℕ)) → command_proof words command ≡ None → command_cache words command ≡ None
     → bytes_left command words cache files ≡ []
 bytes_none (commands.Check check) words cache files no_proof no_cache =
-    none_where (are_accepted files) (command_proof words (commands.Check check)) (command_cache words (commands.Check check)) (OfCache (cache_entries cache)) (distinct (check_keys files))
+    none_where (are_accepted files) (command_proof words (commands.Check check)) (command_cache words (commands.Check check)) (OfCache (cache_entries cache))
+    (distinct (check_keys (is_some check.infer) (pick_of (cache_entries cache)) files))
     no_proof no_cache
 bytes_none (commands.Linked linked) words cache files no_proof no_cache =
     none_where (are_accepted files) (command_proof words (commands.Linked linked)) (command_cache words (commands.Linked linked)) (OfCache (cache_entries cache)) (distinct (linked_keys files))
@@ -122,9 +123,9 @@ met_is held [] (one ∷ files) under = absurd under
 met_is held (name ∷ names) [] under = absurd under
 
 -- The answer to a check of files of these names without a cache, behind this line of errors.
-abbrev plain_answer : Bool → List (List ℕ) → List ℕ → List (Option (List ℕ)) → Answer
-plain_answer show names line files =
-    missing_or (first_missing names files) (after_line line (check_answer (manner_under show (OfCache [])) names (contents files)))
+abbrev plain_answer : Bool → Bool → List (List ℕ) → List ℕ → List (Option (List ℕ)) → Answer
+plain_answer infer show names line files =
+    missing_or (first_missing names files) (after_line line (check_answer infer (manner_under show (OfCache [])) names (contents files)))
 
 -- The line makes no difference to the sink of output.
 pub alike_lines : (missing : Option (List ℕ)) (line text : List ℕ) (answer : Answer) → AreAlike (missing_or missing (after_line line answer)) (missing_or missing (after_line text answer))
@@ -148,21 +149,22 @@ module _ (words other : List (List ℕ)) (asks : AsksWithoutCache words other) (
   files_are : map held names ≡ met.files
   files_are = sym (met_is held (file_names words) met.files under ∙ ap (λ (command : Option Command). map held (command_files words command)) asks.command)
 
-  own_answer : expected words (without_cache met) ≡ plain_answer (is_some asks.check.show) names line met.files
+  own_answer : expected words (without_cache met) ≡ plain_answer (is_some asks.check.infer) (is_some asks.check.show) names line met.files
   own_answer = ap (command_answer words (without_cache met)) asks.command
 
-  other_answer : expected other (met_of held (file_names other)) ≡ plain_answer (is_some asks.check.show) names text met.files
+  other_answer : expected other (met_of held (file_names other)) ≡ plain_answer (is_some asks.check.infer) (is_some asks.check.show) names text met.files
   other_answer =
       ap (λ (command : Option Command). command_answer other (met_of held (command_files other command)) command) asks.without
-      ∙ ap (λ (show : Bool). plain_answer show others text (map held others)) asks.shows
-      ∙ ap (λ (ns : List (List ℕ)). plain_answer (is_some asks.check.show) ns text (map held ns)) asks.files
-      ∙ ap (plain_answer (is_some asks.check.show) names text) files_are
+      ∙ ap (λ (show : Bool). plain_answer (is_some asks.plain.infer) show others text (map held others)) asks.shows
+      ∙ ap (λ (infer : Bool). plain_answer infer (is_some asks.check.show) others text (map held others)) asks.infers
+      ∙ ap (λ (ns : List (List ℕ)). plain_answer (is_some asks.check.infer) (is_some asks.check.show) ns text (map held ns)) asks.files
+      ∙ ap (plain_answer (is_some asks.check.infer) (is_some asks.check.show) names text) files_are
 
   pub plain_alike : AreAlike (expected words (without_cache met)) (expected other (met_of held (file_names other)))
   plain_alike =
       subst (λ (a : Answer). AreAlike a (expected other (met_of held (file_names other)))) (sym own_answer)
-      (subst (λ (a : Answer). AreAlike (plain_answer (is_some asks.check.show) names line met.files) a) (sym other_answer)
-      (alike_lines (first_missing names met.files) line text (check_answer (manner_under (is_some asks.check.show) (OfCache [])) names (contents met.files))))
+      (subst (λ (a : Answer). AreAlike (plain_answer (is_some asks.check.infer) (is_some asks.check.show) names line met.files) a) (sym other_answer)
+      (alike_lines (first_missing names met.files) line text (check_answer (is_some asks.check.infer) (manner_under (is_some asks.check.show) (OfCache [])) names (contents met.files))))
 
 -- An answer behind lines, where no file is missing or the first that is missing has this name.
 pub known_alike : (missing : Option (List ℕ)) (Known : Type 0) (one another : List ℕ) (a b : Answer) → known_unless missing Known → (Known → a ≡ b)
@@ -179,12 +181,15 @@ check_alike check words met status honest known =
     let names = words_at words (check_files check) in
     let files = contents met.files in
     let show = is_some check.show in
-    let keys = check_keys files in
+    let infer = is_some check.infer in
+    let entries = cache_entries met.cache in
+    let keys = check_keys infer (pick_of entries) files in
+    let without = check_keys infer (pick_of []) files in
     known_alike (first_missing names met.files) (KnowsCheck check met.cache files status) (cache_refusal (command_cache words command) met.cache) (cache_refusal (command_cache words command) None)
-    (check_answer (check_manner check met.cache) names files) (check_answer (check_manner check None) names files) known
+    (check_answer infer (check_manner check met.cache) names files) (check_answer infer (check_manner check None) names files) known
     (λ (its : KnowsCheck check met.cache files status).
-    let own = alike_answers (check_manner check met.cache) (limit_manner show) keys (agree_honest show (cache_entries met.cache) keys honest) names files its.runnable (all_contained keys) in
-    let plain = alike_answers (check_manner check None) (limit_manner show) keys (agree_honest show [] keys tt) names files its.runnable (all_contained keys) in
+    let own = alike_answers infer (check_manner check met.cache) (limit_manner show) keys (agree_honest show entries keys honest) (λ _. one_pick_honest entries honest) names files its.runnable (all_contained keys) in
+    let plain = alike_answers infer (check_manner check None) (limit_manner show) without (agree_honest show [] without tt) (λ _. one_pick_honest [] tt) names files its.runnable (all_contained without) in
     own ∙ sym plain)
 
 words_alike : (words : List (List ℕ)) (met : CallMet) (check : CheckWords) (status : ℕ) → command_of words ≡ Some (commands.Check check) → AreHonest (cache_entries met.cache)

@@ -4,7 +4,7 @@ use Rattle.std.specs.Prelude.{IfOk}
 use Rattle.cc_base.specs.Counts.{Kept, Rose}
 use Rattle.cc_base.specs.Sink.{AppendsFront}
 use Rattle.answer_lines.specs.Answers.{Answer}
-use Rattle.answer_lines.specs.Outcome.{Gives, GivesOrFails, IsUnreplaced, Leaves, last_line, status_of}
+use Rattle.answer_lines.specs.Outcome.{GivesOrFails, Leaves, last_line, status_of}
 use Rattle.answer_lines.specs.Writing.{Change}
 use Rattle.answer_lines.specs.declared.interrupt.Interrupt.{Interrupt}
 use Rattle.answer_lines.specs.declared.interrupt.Interrupt.TheVariants as interrupts

@@ -1,6 +1,6 @@
--- A call that opens a cache, reports files and leaves a proof file and the cache, as far as it came, whatever its reports are.
-use Rattle.std.proofs.Common.{◌≡◌, ℕ, ◌≤◌, nat_le, Bool, List, [], Option, Result, Ok, Err, sym, ap, subst, ◌∙◌, inl}
-use Rattle.std.specs.Prelude.{IfOk, IfSome}
+-- A call that opens a cache, reports files and leaves a proof file and the cache, as far as it came, whatever its
+-- reports are.
+use Rattle.std.proofs.Common.{◌≡◌, ℕ, nat_le, Bool, List, [], Option, Result, Ok, Err, ap, subst, ◌∙◌, inl}
 use Rattle.cc_base.specs.Files.{Held}
 use Rattle.answer_lines.specs.Answers.{Answer}
 use Rattle.answer_lines.specs.Outcome.{Gives, WritesAll, after_line}
@@ -14,7 +14,8 @@ use Rattle.unit_verdicts.specs.Asked.{Asks, distinct, without_entry}
 use Rattle.unit_verdicts.specs.Picks.{entries_in}
 use Rattle.unit_verdicts.specs.VerdictCache.{CachedUnits}
 use Rattle.unit_verdicts.specs.declared.source.Source.TheVariants.{Cache as OfCache}
-use Rattle.check_driver.specs.Asked.{asked_for, begun_units, with_judged}
+use Rattle.check_driver.specs.Asked.{begun_units}
+use Rattle.assembly_reports.specs.JudgedUnits.{asked_for, with_judged}
 use Rattle.check_driver.specs.CacheMet.{cache_entries, cache_refusal}
 use Rattle.check_driver.specs.FilesLeft.{AnswerLeaves, AreLeft, FrontIsLeft, GivesOrUnreplaced, LeftFile, left_where}
 use Rattle.check_driver.specs.HonestCaches.{HonestWhereHonest}

@@ -10,7 +10,7 @@ use Rattle.cc_base.specs.Files.{Held}
 use Rattle.cc_base.proofs.CountLemmas.{Kept-Rose, Kept-refl}
 use Rattle.cc_base.proofs.SinkLemmas.{AppendsFront-none}
 use Rattle.answer_lines.specs.Answers.{Answer}
-use Rattle.answer_lines.specs.Outcome.{Gives, WritesAll, after_line}
+use Rattle.answer_lines.specs.Outcome.{Gives, WritesAll}
 use Rattle.answer_lines.specs.Writing.{Change, Writes}
 use Rattle.answer_lines.specs.declared.interrupt.Interrupt.{Interrupt}
 use Rattle.answer_lines.specs.declared.interrupt.Interrupt.TheVariants as interrupts
@@ -22,13 +22,14 @@ use Rattle.command_words.specs.declared.command.Command.{Command}
 use Rattle.command_words.specs.declared.command.Command.TheVariants as commands
 use Rattle.result_cache.specs.Entries.{Entry}
 use Rattle.unit_verdicts.specs.Asked.{Asks, distinct}
-use Rattle.unit_verdicts.specs.Picks.{Manner, entries_in}
+use Rattle.unit_verdicts.specs.Picks.{Manner, entries_in, pick_from, pick_of}
 use Rattle.unit_verdicts.specs.ProofLeft.{IsProofLeft}
 use Rattle.unit_verdicts.specs.VerdictCache.{CachedUnits}
 use Rattle.unit_verdicts.specs.declared.source.Source.TheVariants.{Cache as OfCache}
-use Rattle.check_driver.specs.Asked.{asked_for, begun_units, bytes_asked, check_keys, with_judged}
+use Rattle.check_driver.specs.Asked.{begun_units, bytes_asked, check_keys}
+use Rattle.assembly_reports.specs.JudgedUnits.{asked_for, with_judged}
 use Rattle.check_driver.specs.CacheMet.{cache_entries, cache_refusal, command_cache, command_proof}
-use Rattle.check_driver.specs.CheckText.{all_methods_proved}
+use Rattle.assembly_reports.specs.CheckText.{all_methods_proved}
 use Rattle.check_driver.specs.Expected.{bytes_answer, check_answer, check_manner, checked_before}
 use Rattle.check_driver.specs.FilesLeft.{AnswerLeaves, AreLeft, FrontIsLeft, GivesOrUnreplaced, IfEither, IfNamed, LeftFile, are_accepted, bytes_left, check_left, left_where}
 use Rattle.check_driver.specs.HonestCaches.{HonestWhereHonest}
@@ -55,30 +56,31 @@ small_greater false n =
       | inr few ↦ let is : max 1 n ≡ 1 = omega (arith, few) in ap (λ (m : ℕ). nat_le m 1) is ∙ sym (le-leb n 1 (omega (arith, few)))
     ]
 
-accepted_before : (name : List ℕ) (manner : Manner) (bytes : List ℕ) (fault : Option AsmFault) (others : Answer) (accepted : Bool) → nat_le others.status 1 ≡ accepted
-    → nat_le (checked_before name manner bytes fault others).status 1 ≡ (is_none fault && accepted)
-accepted_before name manner bytes (Some fault) others accepted same = refl
-accepted_before name manner bytes None others accepted same = small_greater (all_methods_proved manner.pick bytes) others.status ∙ same
+accepted_before : (infer : Bool) (name : List ℕ) (manner : Manner) (bytes : List ℕ) (fault : Option AsmFault) (others : Answer) (accepted : Bool) → nat_le others.status 1 ≡ accepted
+    → nat_le (checked_before infer name manner bytes fault others).status 1 ≡ (is_none fault && accepted)
+accepted_before infer name manner bytes (Some fault) others accepted same = refl
+accepted_before infer name manner bytes None others accepted same = small_greater (all_methods_proved infer manner.pick bytes) others.status ∙ same
 
-pub few_where_accepted : (manner : Manner) (names files : List (List ℕ)) → length files ≡ length names → nat_le (check_answer manner names files).status 1 ≡ are_accepted files
-few_where_accepted manner [] [] long = refl
-few_where_accepted manner (name ∷ names) (bytes ∷ files) long =
-    accepted_before name manner bytes (FirstBroken bytes) (check_answer manner names files) (are_accepted files)
-    (few_where_accepted manner names files (omega (arith, long)))
-few_where_accepted manner [] (bytes ∷ files) long = absurd (omega (arith, long))
-few_where_accepted manner (name ∷ names) [] long = absurd (omega (arith, long))
+pub few_where_accepted : (infer : Bool) (manner : Manner) (names files : List (List ℕ)) → length files ≡ length names → nat_le (check_answer infer manner names files).status 1 ≡ are_accepted files
+few_where_accepted infer manner [] [] long = refl
+few_where_accepted infer manner (name ∷ names) (bytes ∷ files) long =
+    accepted_before infer name manner bytes (FirstBroken bytes) (check_answer infer manner names files) (are_accepted files)
+    (few_where_accepted infer manner names files (omega (arith, long)))
+few_where_accepted infer manner [] (bytes ∷ files) long = absurd (omega (arith, long))
+few_where_accepted infer manner (name ∷ names) [] long = absurd (omega (arith, long))
 
 -- What is left is what is expected.
-pub left_is : (words : List (List ℕ)) (check : CheckWords) (met : Option (List ℕ)) (manner : Manner) (names files : List (List ℕ)) (status : ℕ) (cache : CachedUnits)
-    → length files ≡ length names → status ≡ (check_answer manner names files).status → cache ≡ with_judged (begun_units check met) (check_keys files)
+pub left_is : (infer : Bool) (words : List (List ℕ)) (check : CheckWords) (met : Option (List ℕ)) (manner : Manner) (names files : List (List ℕ)) (status : ℕ) (cache : CachedUnits)
+    → length files ≡ length names → status ≡ (check_answer infer manner names files).status
+    → cache ≡ with_judged (begun_units check met) (check_keys infer (pick_of (cache_entries met)) files)
     → left_where (nat_le status 1) (command_proof words (commands.Check check)) (command_cache words (commands.Check check)) cache.held cache.keys
-    ≡ check_left words (commands.Check check) met files
-left_is words check met manner names files status cache long is judged =
+    ≡ check_left infer words (commands.Check check) met files
+left_is infer words check met manner names files status cache long is judged =
     let proof = command_proof words (commands.Check check) in
     let own = command_cache words (commands.Check check) in
     ap (λ (c : CachedUnits). left_where (nat_le status 1) proof own c.held c.keys) judged
-    ∙ ap (λ (accepted : Bool). left_where accepted proof own (OfCache (cache_entries met)) (distinct (check_keys files)))
-    (ap (λ (n : ℕ). nat_le n 1) is ∙ few_where_accepted manner names files long)
+    ∙ ap (λ (accepted : Bool). left_where accepted proof own (OfCache (cache_entries met)) (distinct (check_keys infer (pick_of (cache_entries met)) files)))
+    (ap (λ (n : ℕ). nat_le n 1) is ∙ few_where_accepted infer manner names files long)
 
 -- ---- answers
 
@@ -120,10 +122,15 @@ named_rose proof cache f0 f1 f2 kept (inl rose) = inl (one_rose proof f0 f1 f2 k
 named_rose proof cache f0 f1 f2 kept (inr rose) = inr (one_rose cache f0 f1 f2 kept rose)
 
 -- Invariants are kept where a proof file or a cache is to be left.
-pub keeps_for : {X : Type 0} (proof : Option X) (other keeps : Bool) → keeps ≡ (other || is_some proof) → IfSome proof (λ _. keeps ≡ true)
-keeps_for None other keeps is = tt
-keeps_for (Some one) true keeps is = is
-keeps_for (Some one) false keeps is = is
+pub keeps_for : {X : Type 0} (proof : Option X) (other infers keeps : Bool) → keeps ≡ (other || (is_some proof || infers)) → IfSome proof (λ _. keeps ≡ true)
+keeps_for None other infers keeps is = tt
+keeps_for (Some one) true infers keeps is = is
+keeps_for (Some one) false infers keeps is = is
+
+pub infers_keeps : (cache proof infers keeps : Bool) → keeps ≡ (cache || (proof || infers)) → infers ≡ true → keeps ≡ true
+infers_keeps true proof infers keeps is so = is
+infers_keeps false true infers keeps is so = is
+infers_keeps false false infers keeps is so = is ∙ so
 
 pub first_keeps_for : {X : Type 0} (cache : Option X) (other keeps : Bool) → keeps ≡ (is_some cache || other) → IfSome cache (λ _. keeps ≡ true)
 first_keeps_for None other keeps is = tt
@@ -149,11 +156,18 @@ module _ (check : CheckWords) (words : List (List ℕ)) (met : Option (List ℕ)
   abbrev names : List (List ℕ)
   names = words_at words (check_files check)
 
+  abbrev infer : Bool
+  infer = is_some check.infer
+
   abbrev manner : Manner
   manner = check_manner check met
 
+  -- The units of the reports, over a cache.
+  abbrev keys_over : CachedUnits → List (List ℕ)
+  keys_over cache = check_keys infer (pick_from cache.held) files
+
   abbrev reports : Answer
-  reports = check_answer manner names files
+  reports = check_answer infer manner names files
 
   abbrev answer : Answer
   answer = bytes_answer command words met None files
@@ -183,24 +197,24 @@ module _ (check : CheckWords) (words : List (List ℕ)) (met : Option (List ℕ)
     stopped_at_cache unreplaced status i gives failed = gives_until_replaced answer [] ⊥ unreplaced status i out err (with_line (Ok status) gives) failed
 
   -- What was asked for the reports.
-  pub asked_reports : {X E : Type 0} (cache : CachedUnits) (r : Result X E) (old new : List (List ℕ)) → cache ≡ begun_units check met → Asks (asked_for cache (check_keys files)) r old new
+  pub asked_reports : {X E : Type 0} (cache : CachedUnits) (r : Result X E) (old new : List (List ℕ)) → cache ≡ begun_units check met → Asks (asked_for cache (keys_over cache)) r old new
       → Asks (bytes_asked command met files) r old new
-  asked_reports cache r old new is asks = subst (λ (c : CachedUnits). Asks (asked_for c (check_keys files)) r old new) is asks
+  asked_reports cache r old new is asks = subst (λ (c : CachedUnits). Asks (asked_for c (keys_over c)) r old new) is asks
 
   -- What is left is what is expected.
   module _ (status : ℕ) (begun cache : CachedUnits) (long : length files ≡ length names) (is : status ≡ reports.status) (begins : begun ≡ begun_units check met)
-      (judged : cache ≡ with_judged begun (check_keys files)) where
+      (judged : cache ≡ with_judged begun (keys_over begun)) where
     abbrev left : List LeftFile
     left = bytes_left command words met files
 
     abbrev own : List LeftFile
     own = left_where (nat_le status 1) (command_proof words command) name cache.held cache.keys
 
-    units_are : cache ≡ with_judged (begun_units check met) (check_keys files)
-    units_are = judged ∙ ap (λ (c : CachedUnits). with_judged c (check_keys files)) begins
+    units_are : cache ≡ with_judged (begun_units check met) (keys_over (begun_units check met))
+    units_are = judged ∙ ap (λ (c : CachedUnits). with_judged c (keys_over c)) begins
 
     own_is : own ≡ left
-    own_is = left_is words check met manner names files status cache long is units_are
+    own_is = left_is infer words check met manner names files status cache long is units_are
 
     pub left_or_not : (i : Interrupt) (out : Change) (old new : Option Held) → WritesAll out reports.out → FrontIsLeft own old new → AnswerLeaves left answer.out (Err i) out old new
     left_or_not i out old new all is = leaves_ended left own answer.out i out old new own_is all is

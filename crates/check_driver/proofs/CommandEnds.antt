@@ -1,5 +1,5 @@
 -- What a command gives, by what its call met, wherever it ended.
-use Rattle.std.proofs.Common.{◌≡◌, ◌≢◌, ℕ, List, [], ◌∷◌, ◌++◌, Vec, Global, Option, Some, None, Result, Ok, Err, refl, sym, ap, subst, ◌∙◌, inl, inr}
+use Rattle.std.proofs.Common.{◌≡◌, ℕ, List, ◌++◌, Vec, Global, Option, Some, Result, Ok, Err, refl, sym, subst, inl}
 use Rattle.std.specs.Prelude.{IfOk, option_to_list}
 use Rattle.cc_base.specs.Counts.{Kept, Rose}
 use Rattle.cc_base.specs.Files.{Held}
@@ -22,8 +22,8 @@ use Rattle.check_driver.specs.CallRead.{IsReadIndex, cache_bytes}
 use Rattle.check_driver.specs.Expected.{bytes_answer, files_answer}
 use Rattle.check_driver.specs.FilesLeft.{AnswerLeaves, IfEither, LeftFile, bytes_left, files_left}
 use Rattle.check_driver.specs.HonestCaches.{HonestWhereHonest}
-use Rattle.check_driver.specs.Known.{AnswerKnows, FilesKnown, Knows, known_unless}
-use Rattle.check_driver.specs.Met.{AreContents, AreUnder, IsCacheContent, bytes_read, first_missing}
+use Rattle.check_driver.specs.Known.{AnswerKnows, Knows}
+use Rattle.check_driver.specs.Met.{AreContents, IsCacheContent, bytes_read, first_missing}
 use Rattle.check_driver.specs.ProofMet.{IsProofMet}
 use Rattle.check_driver.proofs.Answering.{gives_read, gives_unread, missing_answer, missing_asked, missing_left, read_answer, read_asked, read_left}
 use Rattle.check_driver.proofs.Asking.{answer_asks, answer_asks_none, unasked, unread_asks}

@@ -1,45 +1,44 @@
 -- By the proof file that a check of one file has left, `verify` gives the report of that check.
-use Rattle.std.proofs.Common.{◌≡◌, ◌≢◌, ℕ, ◌≤◌, max, nat_le, Bool, true, false, ◌&&◌, List, [], ◌∷◌, ◌++◌, length, Option, Some, None, is_none, option_map, Result, Ok, Err, if◌then◌else◌, refl, sym, ap, subst, ◌∙◌, append-nil, arith, inl, inr, unwrap_or}
-use Rattle.std.specs.Prelude.{Contains, IfSome, option_and_then}
+use Rattle.std.proofs.Common.{◌≡◌, ◌≢◌, ℕ, ◌≤◌, max, Bool, true, false, ◌&&◌, List, [], ◌∷◌, ◌++◌, Option, Some, None, is_none, is_some, option_map, Result, Ok, Err, if◌then◌else◌, refl, sym, ap, subst, ◌∙◌, append-nil, arith, inl, inr}
+use Rattle.std.specs.Prelude.{Contains, IfSome}
 use Rattle.std.proofs.lemmas.Option.{same_Some}
 use Rattle.asm_image.specs.Faults.{FirstBroken}
 use Rattle.asm_image.specs.declared.fault.AsmFault.{AsmFault}
 use Rattle.cc_base.specs.Files.{Held}
-use Rattle.cil_model.specs.declared.unit.Unit.{Unit as MethodUnit}
-use Rattle.method_unit.specs.Units.{IsUnit}
-use Rattle.unit_form.specs.Spelling.{unit_bytes}
 use Rattle.answer_lines.specs.Answers.{Answer, output_answer}
-use Rattle.answer_lines.specs.Outcome.{GivesOrFails, after_line, status_of}
+use Rattle.answer_lines.specs.Outcome.{GivesOrFails, status_of}
 use Rattle.answer_lines.specs.Writing.{Change}
 use Rattle.answer_lines.specs.declared.interrupt.Interrupt.{Interrupt}
 use Rattle.answer_lines.specs.declared.interrupt.Interrupt.TheVariants as interrupts
-use Rattle.command_words.specs.Words.{cache_index, cache_name, check_files, command_files, command_of, file_indexes, file_names, word_at, words_at}
+use Rattle.command_words.proofs.InferWords.{check_infers_nothing}
+use Rattle.command_words.specs.Words.{cache_name, check_files, command_files, file_names, word_at, words_at}
 use Rattle.command_words.specs.declared.check_words.CheckWords.{CheckWords}
 use Rattle.command_words.specs.declared.command.Command.{Command}
 use Rattle.command_words.specs.declared.command.Command.TheVariants as commands
 use Rattle.proof_files.specs.Proofs.{Entry as ProofEntry, IsProofOf, kept}
-use Rattle.proof_files.specs.Reading.{IsProofRead, ProofRead, Refused, Whole}
+use Rattle.proof_files.specs.Reading.{ProofRead, Whole}
 use Rattle.proof_files.proofs.ReadOnce.{one_read}
-use Rattle.result_cache.specs.Entries.{Entry}
 use Rattle.unit_builder.specs.Outcomes.{entries_of}
 use Rattle.unit_verdicts.specs.Asked.{distinct}
 use Rattle.unit_verdicts.specs.CacheFile.{cache_left}
-use Rattle.unit_verdicts.specs.Picks.{Manner, entries_in, shown_text}
+use Rattle.unit_verdicts.specs.Picks.{Manner, Pick, entries_in, pick_from, pick_of, shown_text}
 use Rattle.unit_verdicts.specs.ProofLeft.{Confirms, IsProofLeft, proof_entries, proof_left}
 use Rattle.unit_verdicts.specs.VerdictCache.{manner_under}
 use Rattle.unit_verdicts.specs.declared.source.Source.{Source}
 use Rattle.unit_verdicts.specs.declared.source.Source.TheVariants.{Cache as OfCache, Proof as OfProof}
-use Rattle.check_driver.specs.Asked.{check_keys, judged_keys, keys_before}
-use Rattle.check_driver.specs.CacheMet.{CallMet, IsCacheUnder, IsMet, cache_entries, cache_refusal, command_cache, command_proof}
-use Rattle.check_driver.specs.CheckText.{all_methods_proved, check_text}
-use Rattle.check_driver.specs.Checked.{AreRunnable}
+use Rattle.check_driver.specs.Asked.{check_keys, keys_before}
+use Rattle.assembly_reports.specs.JudgedUnits.{judged_keys}
+use Rattle.check_driver.specs.CacheMet.{CallMet, IsMet, cache_entries, command_cache, command_proof}
+use Rattle.assembly_reports.specs.CheckText.{all_methods_proved, check_text}
+use Rattle.assembly_reports.specs.Reportable.{AreRunnable}
 use Rattle.check_driver.specs.Confirmed.{AsksToConfirm, plain_report, source_held}
 use Rattle.check_driver.specs.Expected.{answer_by, assembly_answer, bytes_answer, check_answer, check_manner, checked_before, command_answer, expected, files_answer, missing_or, verify_answer}
 use Rattle.check_driver.specs.FilesLeft.{AnswerLeaves, AreLeft, LeftFile, check_left, command_left, left_by, left_files, left_unless, left_where, named_file}
 use Rattle.check_driver.specs.Known.{AnswerKnows, AreAllRunnable, KnowsCheck, RunnableBefore, WordsKnow, known_unless}
-use Rattle.check_driver.specs.Met.{AreUnder, IsUnder, contents, first_missing}
+use Rattle.check_driver.specs.Met.{AreUnder, contents, first_missing}
 use Rattle.check_driver.specs.ProofMet.{IsProofMet, IsReadOf}
 use Rattle.check_driver.proofs.AlikeReports.{AgreeOn, AreAmong, same_proved, same_text}
+use Rattle.check_driver.proofs.CacheCuts.{met_cache}
 use Rattle.check_driver.proofs.DistinctKeys.{all_distinct}
 use Rattle.check_driver.proofs.LeftFiles.{AreOthers, others_kept}
 use Rattle.check_driver.proofs.OwnNames.{file_not_cache, file_not_proof, proof_apart}
@@ -52,17 +51,21 @@ unfolding shown_text
 agree_confirmed entries held keys confirms = record { verdicts = confirms; shown = λ unit is has. refl }
 
 -- The keys of an assembly that is accepted.
-keys_of_one : (bytes : List ℕ) (fault : Option AsmFault) → fault ≡ None → keys_before bytes fault [] ≡ judged_keys (entries_of bytes)
-keys_of_one bytes None none = append-nil (judged_keys (entries_of bytes))
-keys_of_one bytes (Some fault) none = absurd cc
+keys_of_one : (pick : Pick) (bytes : List ℕ) (fault : Option AsmFault) → fault ≡ None → keys_before false pick bytes fault [] ≡ judged_keys (entries_of bytes)
+keys_of_one pick bytes None none = append-nil (judged_keys (entries_of bytes))
+keys_of_one pick bytes (Some fault) none = absurd cc
 
 runnable_one : (bytes : List ℕ) (fault : Option AsmFault) (Others : Type 0) → fault ≡ None → RunnableBefore bytes fault Others → AreRunnable bytes
 runnable_one bytes None Others none known = known.0
 runnable_one bytes (Some fault) Others none known = absurd cc
 
+-- The units that are judged for the report of one assembly, of its methods as they are written.
+abbrev keys_by : Source → List ℕ → List (List ℕ)
+keys_by held bytes = distinct (check_keys false (pick_from held) (bytes ∷ []))
+
 module _ (name by_name bytes : List ℕ) (held : Source) (accepted : FirstBroken bytes ≡ None) where
   abbrev keys : List (List ℕ)
-  keys = distinct (check_keys (bytes ∷ []))
+  keys = keys_by held bytes
 
   abbrev entries : List ProofEntry
   entries = proof_entries held keys
@@ -76,11 +79,11 @@ module _ (name by_name bytes : List ℕ) (held : Source) (accepted : FirstBroken
   same_report known confirms =
       let its = runnable_one bytes (FirstBroken bytes) (AreAllRunnable []) accepted known in
       let agree = agree_confirmed entries held keys confirms in
-      let one : check_keys (bytes ∷ []) ≡ judged_keys (entries_of bytes) = keys_of_one bytes (FirstBroken bytes) accepted in
-      let among = subst (λ (k : List (List ℕ)). AreAmong keys k) one (all_distinct (check_keys (bytes ∷ []))) in
-      ap (λ (text : List ℕ). output_answer (if all_methods_proved (Manner.pick (manner_under false (OfProof entries))) bytes then 0 else 1) text)
+      let one : check_keys false (pick_from held) (bytes ∷ []) ≡ judged_keys (entries_of bytes) = keys_of_one (pick_from held) bytes (FirstBroken bytes) accepted in
+      let among = subst (λ (k : List (List ℕ)). AreAmong keys k) one (all_distinct (check_keys false (pick_from held) (bytes ∷ []))) in
+      ap (λ (text : List ℕ). output_answer (if all_methods_proved false (Manner.pick (manner_under false (OfProof entries))) bytes then 0 else 1) text)
       (same_text (manner_under false (OfProof entries)) plain keys agree name bytes its among)
-      ∙ ap (λ (proved : Bool). output_answer (if proved then 0 else 1) (check_text name plain bytes))
+      ∙ ap (λ (proved : Bool). output_answer (if proved then 0 else 1) (check_text false name plain bytes))
       (same_proved (manner_under false (OfProof entries)) plain keys agree bytes its among)
 
   -- What is read of the file that was left.
@@ -95,20 +98,20 @@ module _ (name by_name bytes : List ℕ) (held : Source) (accepted : FirstBroken
 -- ---- what a check has answered
 
 -- A check of one file that answered with a status of 0 or 1 accepted it, and this was the status of its report.
-accepted_one : (manner : Manner) (name bytes : List ℕ) (status : ℕ) → status ≡ (check_answer manner (name ∷ []) (bytes ∷ [])).status → status ≤ 1 → FirstBroken bytes ≡ None
-accepted_one manner name bytes status is few = by (FirstBroken bytes) refl
+accepted_one : (infer : Bool) (manner : Manner) (name bytes : List ℕ) (status : ℕ) → status ≡ (check_answer infer manner (name ∷ []) (bytes ∷ [])).status → status ≤ 1 → FirstBroken bytes ≡ None
+accepted_one infer manner name bytes status is few = by (FirstBroken bytes) refl
   where
     by : (fault : Option AsmFault) → FirstBroken bytes ≡ fault → FirstBroken bytes ≡ None
     by None first = first
     by (Some fault) first =
-        let five : status ≡ 5 = is ∙ ap (λ (found : Option AsmFault). Answer.status (checked_before name manner bytes found (check_answer manner [] []))) first in
+        let five : status ≡ 5 = is ∙ ap (λ (found : Option AsmFault). Answer.status (checked_before infer name manner bytes found (check_answer infer manner [] []))) first in
         absurd (omega (arith, five, few))
 
-status_one : (manner : Manner) (name bytes : List ℕ) (status : ℕ) → status ≡ (check_answer manner (name ∷ []) (bytes ∷ [])).status → FirstBroken bytes ≡ None
-    → status ≡ (if all_methods_proved manner.pick bytes then 0 else 1)
-status_one manner name bytes status is accepted =
-    is ∙ ap (λ (found : Option AsmFault). Answer.status (checked_before name manner bytes found (check_answer manner [] []))) accepted
-    ∙ greatest (if all_methods_proved manner.pick bytes then 0 else 1)
+status_one : (infer : Bool) (manner : Manner) (name bytes : List ℕ) (status : ℕ) → status ≡ (check_answer infer manner (name ∷ []) (bytes ∷ [])).status → FirstBroken bytes ≡ None
+    → status ≡ (if all_methods_proved infer manner.pick bytes then 0 else 1)
+status_one infer manner name bytes status is accepted =
+    is ∙ ap (λ (found : Option AsmFault). Answer.status (checked_before infer name manner bytes found (check_answer infer manner [] []))) accepted
+    ∙ greatest (if all_methods_proved infer manner.pick bytes then 0 else 1)
   where
     greatest : (n : ℕ) → max n 0 ≡ n
     greatest n = omega arith
@@ -149,11 +152,6 @@ met_two held name by bytes proof [] is there its_proof = absurd is
 met_two held name by bytes proof (under ∷ []) (is, never) there its_proof = absurd never
 met_two held name by bytes proof (under ∷ second ∷ third ∷ met) (is, (also, never)) there its_proof = absurd never
 
--- A cache.
-met_cache : (held : Held) (name cache : Option (List ℕ)) → IsCacheUnder (Some held) name cache → cache ≡ option_and_then held name
-met_cache held None cache none = none
-met_cache held (Some name) cache is = sym (is held refl)
-
 -- ---- the other words
 
 module _ (words other : List (List ℕ)) (held after : Held) (asks : AsksToConfirm words other held) (status : ℕ) where
@@ -170,7 +168,11 @@ module _ (words other : List (List ℕ)) (held after : Held) (asks : AsksToConfi
   source = source_held words held
 
   abbrev its_keys : List (List ℕ)
-  its_keys = distinct (check_keys (asks.bytes ∷ []))
+  its_keys = keys_by source asks.bytes
+
+  -- Nothing is inferred where a proof file is left.
+  no_infer : is_some check.infer ≡ false
+  no_infer = ap (λ (infer : Option ℕ). is_some infer) (check_infers_nothing words check asks.command (ap is_some asks.leaves))
 
   -- What `verify` is expected to give where it meets both files.
   verified : (met : CallMet) → IsMet (Some after) (file_names other) None met → FirstBroken asks.bytes ≡ None → after name ≡ Some asks.bytes → after by ≡ Some (proof_left source its_keys)
@@ -209,20 +211,24 @@ module _ (words other : List (List ℕ)) (held after : Held) (asks : AsksToConfi
     none : first_missing (words_at words (check_files check)) met.files ≡ None
     none = ap (λ (l : List ℕ). first_missing (words_at words l) met.files) asks.one ∙ ap (first_missing (name ∷ [])) files
 
-    reports : (expected words met).status ≡ (check_answer (check_manner check met.cache) (name ∷ []) (asks.bytes ∷ [])).status
+    abbrev manner : Manner
+    manner = check_manner check met.cache
+
+    reports : (expected words met).status ≡ (check_answer false manner (name ∷ []) (asks.bytes ∷ [])).status
     reports =
         ap (λ (c : Option Command). Answer.status (command_answer words met c)) asks.command
         ∙ ap (λ (missing : Option (List ℕ)). Answer.status (missing_or missing (bytes_answer command words met.cache met.proof (contents met.files)))) none
-        ∙ ap (λ (l : List ℕ). Answer.status (check_answer (check_manner check met.cache) (words_at words l) (contents met.files))) asks.one
-        ∙ ap (λ (fs : List (Option (List ℕ))). Answer.status (check_answer (check_manner check met.cache) (name ∷ []) (contents fs))) files
+        ∙ ap (λ (l : List ℕ). Answer.status (check_answer (is_some check.infer) manner (words_at words l) (contents met.files))) asks.one
+        ∙ ap (λ (fs : List (Option (List ℕ))). Answer.status (check_answer (is_some check.infer) manner (name ∷ []) (contents fs))) files
+        ∙ ap (λ (infer : Bool). Answer.status (check_answer infer manner (name ∷ []) (asks.bytes ∷ []))) no_infer
 
     accepted : FirstBroken asks.bytes ≡ None
-    accepted = accepted_one (check_manner check met.cache) name asks.bytes status (given ∙ reports) few
+    accepted = accepted_one false manner name asks.bytes status (given ∙ reports) few
 
-    status_is : status ≡ (if all_methods_proved (Manner.pick (manner_under false source)) asks.bytes then 0 else 1)
+    status_is : status ≡ (if all_methods_proved false (Manner.pick (manner_under false source)) asks.bytes then 0 else 1)
     status_is =
-        status_one (check_manner check met.cache) name asks.bytes status (given ∙ reports) accepted
-        ∙ ap (λ (s : Source). if all_methods_proved (Manner.pick (manner_under false s)) asks.bytes then 0 else 1) entries_are
+        status_one false manner name asks.bytes status (given ∙ reports) accepted
+        ∙ ap (λ (s : Source). if all_methods_proved false (Manner.pick (manner_under false s)) asks.bytes then 0 else 1) entries_are
 
     known : KnowsCheck check met.cache (asks.bytes ∷ []) status
     known =
@@ -233,18 +239,22 @@ module _ (words other : List (List ℕ)) (held after : Held) (asks : AsksToConfi
 
     proof_is_left : IsProofLeft source its_keys
     proof_is_left =
-        subst (λ (s : Source). IsProofLeft s its_keys) entries_are
-        (subst (λ (index : Option ℕ). IfSome index (λ _. IsProofLeft (OfCache (cache_entries met.cache)) its_keys)) asks.leaves (known.left few))
+        let entries = cache_entries met.cache in
+        subst (λ (s : Source). IsProofLeft s (keys_by s asks.bytes)) entries_are
+        (subst (λ (infer : Bool). IsProofLeft (OfCache entries) (distinct (check_keys infer (pick_of entries) (asks.bytes ∷ [])))) no_infer
+        (subst (λ (index : Option ℕ). IfSome index (λ _. IsProofLeft (OfCache entries) (distinct (check_keys (is_some check.infer) (pick_of entries) (asks.bytes ∷ []))))) asks.leaves (known.left few)))
 
     -- The files that were left, by their names.
     left_are : left_by words met ≡ left_files (Some by) (command_cache words command) source its_keys
     left_are =
+        let own = OfCache (cache_entries met.cache) in
         ap (command_left words met) asks.command
-        ∙ ap (λ (missing : Option (List ℕ)). left_unless missing (check_left words command met.cache (contents met.files))) none
-        ∙ ap (λ (fs : List (Option (List ℕ))). check_left words command met.cache (contents fs)) files
-        ∙ ap (λ (found : Option AsmFault). left_where (is_none found && true) (command_proof words command) (command_cache words command) (OfCache (cache_entries met.cache)) its_keys) accepted
-        ∙ ap (λ (index : Option ℕ). left_files (option_map (word_at words) index) (command_cache words command) (OfCache (cache_entries met.cache)) its_keys) asks.leaves
-        ∙ ap (λ (s : Source). left_files (Some by) (command_cache words command) s its_keys) entries_are
+        ∙ ap (λ (missing : Option (List ℕ)). left_unless missing (check_left (is_some check.infer) words command met.cache (contents met.files))) none
+        ∙ ap (λ (fs : List (Option (List ℕ))). check_left (is_some check.infer) words command met.cache (contents fs)) files
+        ∙ ap (λ (infer : Bool). check_left infer words command met.cache (asks.bytes ∷ [])) no_infer
+        ∙ ap (λ (found : Option AsmFault). left_where (is_none found && true) (command_proof words command) (command_cache words command) own (keys_by own asks.bytes)) accepted
+        ∙ ap (λ (index : Option ℕ). left_files (option_map (word_at words) index) (command_cache words command) own (keys_by own asks.bytes)) asks.leaves
+        ∙ ap (λ (s : Source). left_files (Some by) (command_cache words command) s (keys_by s asks.bytes)) entries_are
 
     has_file : Contains (check_files check) asks.file
     has_file = subst (λ (l : List ℕ). Contains l asks.file) (sym asks.one) (0, omega arith, refl)

@@ -18,8 +18,8 @@ large_cache bytes past =
 some_is : {X : Type 0} (x y : X) → Some x ≡ Some y → x ≡ y
 some_is x y e = cc
 
--- What stands for the bytes of a cache and for its first fault, and not for the bytes where there is a fault, is the same for
--- what is met and for what was read of it.
+-- What stands for the bytes of a cache and for its first fault, and not for the bytes where there is a fault, is the
+-- same for what is met and for what was read of it.
 module _ {R : Type 0} (answer : List ℕ → Option CacheFault → R) (of_fault : (a b : List ℕ) (fault : CacheFault) → answer a (Some fault) ≡ answer b (Some fault)) where
   abbrev told : List ℕ → R
   told bytes = answer bytes (first_cache_fault bytes)

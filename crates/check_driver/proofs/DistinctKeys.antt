@@ -9,7 +9,7 @@ use Rattle.std.proofs.lemmas.Slice.Eq.{bytes_eq-Decides}
 use Rattle.answer_lines.proofs.WholeLines.{is_first}
 use Rattle.result_cache.specs.Entries.{is_among}
 use Rattle.unit_verdicts.specs.Asked.{distinct, unseen}
-use Rattle.check_driver.proofs.Members.{all_of_each, contains_first, none_contained}
+use Rattle.assembly_reports.proofs.Members.{all_of_each, contains_first, none_contained}
 
 abbrev Keys : Type 0
 Keys = List (List ℕ)

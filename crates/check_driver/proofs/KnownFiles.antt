@@ -1,28 +1,25 @@
 -- What is known of the files that were read is known of what is met.
-use Rattle.std.proofs.Common.{◌≡◌, ◌≢◌, ℕ, ◌≤◌, List, [], ◌∷◌, length, take, Vec, Global, Option, Some, None, Result, Ok, Err, refl, sym, ap, subst, ◌∙◌, arith, inl, inr}
+use Rattle.std.proofs.Common.{◌≡◌, ℕ, List, [], ◌∷◌, Vec, Global, Option, Some, None, is_some, Result, Ok, Err, refl, sym, subst, ◌∙◌, inl, inr}
 use Rattle.std.specs.Prelude.{IfOk, IfSome}
 use Rattle.std.specs.List.{AllByRecursion}
-use Rattle.std.proofs.lemmas.Bool.{cases_lt}
-use Rattle.std.proofs.lemmas.List.{take_all}
-use Rattle.std.proofs.lemmas.Option.{same_Some}
 use Rattle.asm_image.specs.Faults.{FirstBroken}
 use Rattle.asm_image.specs.declared.fault.AsmFault.{AsmFault}
-use Rattle.cc_base.specs.Files.{READ_LIMIT}
 use Rattle.answer_lines.specs.declared.interrupt.Interrupt.{Interrupt}
-use Rattle.assembly_answers.proofs.CutFiles.{large_first}
-use Rattle.command_words.specs.Words.{file_indexes, word_at, words_at}
+use Rattle.command_words.specs.Words.{file_indexes, words_at}
 use Rattle.command_words.specs.declared.check_words.CheckWords.{CheckWords}
 use Rattle.command_words.specs.declared.command.Command.{Command}
 use Rattle.command_words.specs.declared.command.Command.TheVariants as commands
 use Rattle.result_cache.specs.Entries.{Entry}
 use Rattle.unit_verdicts.specs.Asked.{distinct}
+use Rattle.unit_verdicts.specs.Picks.{pick_of}
 use Rattle.unit_verdicts.specs.ProofLeft.{IsProofLeft}
 use Rattle.unit_verdicts.specs.declared.source.Source.TheVariants.{Cache as OfCache}
 use Rattle.check_driver.specs.Asked.{check_keys}
 use Rattle.check_driver.specs.CacheMet.{CallMet, cache_entries}
 use Rattle.check_driver.specs.CallRead.{cache_bytes}
-use Rattle.check_driver.specs.Known.{AnswerKnows, AreAllRunnable, AreLinkedRunnable, FilesKnown, Knows, KnowsCheck, RunnableBefore, RunnableUnless, known_unless}
-use Rattle.check_driver.specs.LinkedReports.{CanRun, RefusedFile, first_refused}
+use Rattle.check_driver.specs.Known.{AnswerKnows, AreAllRunnable, AreLinkedRunnable, Knows, KnowsCheck, RunnableBefore, RunnableUnless, known_unless}
+use Rattle.check_driver.specs.LinkedReports.{RefusedFile, first_refused}
+use Rattle.assembly_reports.specs.Reportable.{CanRun}
 use Rattle.check_driver.specs.Met.{AreContents, IsCacheContent, IsContent, bytes_read, contents, first_missing}
 use Rattle.check_driver.proofs.Answering.{keys_alike}
 use Rattle.check_driver.proofs.CacheCuts.{entries_alike}
@@ -71,8 +68,10 @@ knows_alike : (check : CheckWords) (met : CallMet) (read : List (Vec ℕ Global)
 knows_alike check met read own status h is known = record {
   runnable = runnable_alike met.files read h known.runnable;
   left = λ few.
-      subst (λ (entries : List Entry). IfSome check.proof (λ _. IsProofLeft (OfCache entries) (distinct (check_keys (contents met.files))))) (sym (entries_alike met.cache own is))
-      (subst (λ (keys : List (List ℕ)). IfSome check.proof (λ _. IsProofLeft (OfCache (cache_entries (cache_bytes own))) (distinct keys))) (sym (keys_alike met.files read h)) (known.left few));
+      let infer = is_some check.infer in
+      let entries = cache_entries (cache_bytes own) in
+      subst (λ (es : List Entry). IfSome check.proof (λ _. IsProofLeft (OfCache es) (distinct (check_keys infer (pick_of es) (contents met.files))))) (sym (entries_alike met.cache own is))
+      (subst (λ (keys : List (List ℕ)). IfSome check.proof (λ _. IsProofLeft (OfCache entries) (distinct keys))) (sym (keys_alike infer (pick_of entries) met.files read h)) (known.left few));
 }
 
 -- The units of linked files can be run where those of what was read can.

@@ -1,4 +1,3 @@
-pub mod Members
 pub mod Contents
 pub mod CacheTexts
 pub mod CutCaches
@@ -6,10 +5,8 @@ pub mod CacheCuts
 pub mod Answering
 pub mod Asking
 pub mod CallLeft
-pub mod Judging
 pub mod ProofCuts
 pub mod DistinctKeys
-pub mod KeysAsked
 pub mod SeveralFiles
 pub mod AlikeReports
 pub mod LeftFiles
@@ -27,21 +24,8 @@ pub mod Reportable
 pub mod RefutedMethods
 pub mod FilesRead
 pub mod InputsRead
-pub mod ReportLines
-pub mod FindAll
 pub mod Statuses
-pub mod Reported
-pub mod ShownLines
-pub mod ReportTexts
-pub mod FewMethods
-pub mod CountedTexts
-pub mod FoundWithin
-pub mod PrintedMethods
-pub mod PrintedSafety
-pub mod LinesOf
-pub mod SectionLemmas
 pub mod ReportSections
-mod SectionExamples
 pub mod HeadlineSafety
 pub mod LinkedFiles
 pub mod LinkedBegun

@@ -19,13 +19,15 @@ use Rattle.unit_verdicts.specs.CacheFile.{AreHonest}
 use Rattle.unit_verdicts.specs.Picks.{Manner, limit_manner}
 use Rattle.unit_verdicts.specs.VerdictCache.{manner_under}
 use Rattle.unit_verdicts.specs.declared.source.Source.TheVariants.{Cache as OfCache}
-use Rattle.check_driver.specs.Asked.{judged_keys}
+use Rattle.assembly_reports.specs.JudgedUnits.{judged_keys}
 use Rattle.check_driver.specs.CacheMet.{CallMet, IsMet, cache_entries, cache_refusal, command_cache, met_of, without_cache}
 use Rattle.check_driver.specs.Expected.{check_manner, command_answer, expected, files_answer, missing_or}
 use Rattle.check_driver.specs.HonestCaches.{AreAlike, IsCacheHonest, WritesAs}
 use Rattle.check_driver.specs.Known.{AnswerKnows, AreLinkedRunnable, FilesKnown, RunnableUnless, WordsKnow}
 use Rattle.check_driver.specs.LinkedHeadline.{LinksWithoutCache}
-use Rattle.check_driver.specs.LinkedReports.{CanRun, RefusedFile, are_all_proved, are_proved, file_report, file_reports, first_refused, linked_answer, refused_or}
+use Rattle.check_driver.specs.LinkedReports.{RefusedFile, are_all_proved, file_report, file_reports, first_refused, linked_answer, refused_or}
+use Rattle.assembly_reports.specs.Reportable.{CanRun}
+use Rattle.assembly_reports.specs.CheckText.{are_proved}
 use Rattle.check_driver.specs.Met.{AreUnder, contents, first_missing}
 use Rattle.check_driver.proofs.AlikeReports.{AgreeOn, AreAmong, agree_honest, first_among, last_among, same_entries_proved, same_report}
 use Rattle.check_driver.proofs.CallEnds.{alike_lines, entries_honest, known_alike, met_is}

@@ -1,7 +1,7 @@
 -- The reports of files from one on: what is written, what is begun, and what is judged.
-use Rattle.std.proofs.Common.{◌≡◌, ℕ, zero, suc, ◌+◌, ◌<◌, ◌≤◌, max, nat_le, Bool, true, false, ◌&&◌, List, [], ◌∷◌, ◌++◌, take, length, map, zip, get_or, Vec, Global, Option, Some, None, is_none, Result, Ok, Err, if◌then◌else◌, refl, sym, ap, subst, ◌∙◌, append-nil, inl, inr, arith}
+use Rattle.std.proofs.Common.{◌≡◌, ℕ, zero, suc, ◌+◌, ◌<◌, ◌≤◌, max, nat_le, Bool, true, false, ◌&&◌, List, [], ◌∷◌, ◌++◌, take, length, zip, get_or, Vec, Global, Option, Some, None, is_none, Result, Ok, Err, if◌then◌else◌, refl, sym, ap, subst, ◌∙◌, append-nil, inl, inr, arith}
 use Rattle.std.specs.Prelude.{IfOk}
-use Rattle.std.specs.List.{AllByRecursion, flat_map, range_with_len}
+use Rattle.std.specs.List.{AllByRecursion, flat_map}
 use Rattle.std.proofs.lemmas.List.{get_or-map}
 use Rattle.cc_base.specs.Sink.{AppendsFront, appended, counted}
 use Rattle.cc_base.proofs.CountLemmas.{Kept-Rose, Kept-refl, Kept-trans}
@@ -16,11 +16,13 @@ use Rattle.command_words.specs.Words.{word_at, words_at}
 use Rattle.unit_builder.specs.FileSets.{FileSet, Several}
 use Rattle.unit_builder.specs.Linked.{linked_entries}
 use Rattle.unit_builder.specs.declared.entry.MethodEntry.{MethodEntry}
-use Rattle.unit_verdicts.specs.Picks.{Manner, Pick}
-use Rattle.check_driver.specs.Asked.{judged_keys, keys_unless, linked_keys}
-use Rattle.check_driver.specs.CheckText.{report_text}
+use Rattle.unit_verdicts.specs.Picks.{Manner}
+use Rattle.check_driver.specs.Asked.{keys_unless, linked_keys}
+use Rattle.assembly_reports.specs.JudgedUnits.{judged_keys}
+use Rattle.assembly_reports.specs.CheckText.{report_text}
 use Rattle.check_driver.specs.Known.{AreLinkedRunnable, RunnableUnless}
-use Rattle.check_driver.specs.LinkedReports.{CanRun, LinkedBegun, RefusedFile, ReportedFile, ReportsBegun, are_all_proved, are_proved, entries_at, entries_from, file_reports, first_refused, linked_answer, refused_or, reported_from}
+use Rattle.check_driver.specs.LinkedReports.{LinkedBegun, RefusedFile, ReportedFile, ReportsBegun, are_all_proved, entries_from, file_reports, first_refused, linked_answer, refused_or, reported_from}
+use Rattle.assembly_reports.specs.Reportable.{CanRun, entries_at}
 use Rattle.check_driver.specs.FilesLeft.{are_accepted}
 use Rattle.check_driver.specs.LinkedHeadline.{SomeLinkedBegun}
 use Rattle.check_driver.specs.LinkedReading.{ReadsAll, ReadsOne}

@@ -1,5 +1,5 @@
 -- The first of linked files that is refused.
-use Rattle.std.proofs.Common.{◌≡◌, ℕ, zero, suc, ◌+◌, ◌<◌, ◌≤◌, ◌&&◌, Bool, true, List, [], ◌∷◌, ◌++◌, length, take, get_or, Vec, Global, Option, Some, None, is_none, unwrap_or, option_map, refl, sym, ap, ◌∙◌, arith, inl, inr, length-take}
+use Rattle.std.proofs.Common.{◌≡◌, ℕ, zero, suc, ◌+◌, ◌<◌, ◌≤◌, ◌&&◌, List, [], ◌∷◌, length, take, get_or, Vec, Global, Option, Some, None, is_none, unwrap_or, refl, sym, ap, ◌∙◌, arith, inl, inr, length-take}
 use Rattle.asm_image.specs.Faults.{FirstBroken}
 use Rattle.asm_image.specs.declared.fault.AsmFault.{AsmFault}
 use Rattle.assembly_answers.proofs.CutFiles.{large_first}

@@ -1,11 +1,10 @@
 -- Where all that a method of linked files reaches by calls was printed as proved, the method is safe in its world.
-use Rattle.std.proofs.Common.{◌≡◌, ℕ, ◌+◌, ◌-◌, ◌<◌, ◌^◌, List, [], get_or, Option, Some, None, IsSome, slice_get, refl, sym, ap, subst, ◌∙◌}
-use Rattle.std.specs.Prelude.{Contains, map}
+use Rattle.std.proofs.Common.{◌≡◌, ℕ, ◌-◌, ◌<◌, ◌^◌, List, [], get_or, Option, Some, None, IsSome, slice_get, refl, sym, ap, subst, ◌∙◌}
+use Rattle.std.specs.Prelude.{Contains}
 use Rattle.std.specs.List.{AllByRecursion}
 use Rattle.std.specs.Option.{option_and_then}
 use Rattle.std.proofs.lemmas.Option.{get_or_from_slice_get, none-some, same_Some}
 use Rattle.asm_image.specs.Bodies.{method_of}
-use Rattle.asm_image.specs.Faults.{FirstBroken}
 use Rattle.asm_image.specs.Rows.{methods_of}
 use Rattle.asm_image.specs.declared.method_row.MethodRow.{MethodRow}
 use Rattle.cc_base.specs.Tokens.{row_of}
@@ -30,10 +29,9 @@ use Rattle.unit_builder.proofs.VisitLemmas.{row_there, some_is}
 use Rattle.check_driver.specs.Headline.{RunsKeepArrays, WasAppended}
 use Rattle.check_driver.specs.LinkedHeadline.{BeginsLinkedWorld, SomeLinkedBegun, TellLinkedProved}
 use Rattle.check_driver.specs.NothingOr.{NothingOr}
-use Rattle.check_driver.proofs.HeadlineSafety.{named_itself}
 use Rattle.check_driver.proofs.LinkedSections.{IsSafeOf, each_accepted, section_safe}
-use Rattle.check_driver.proofs.Members.{all_at, contained_at}
-use Rattle.check_driver.proofs.PrintedMethods.{IsSafeIn}
+use Rattle.assembly_reports.proofs.Members.{all_at, contained_at}
+use Rattle.assembly_reports.proofs.NamedMethods.{named_itself}
 
 module _ (names files : List (List ℕ)) (old new : Option (List ℕ)) (text : List ℕ) (appended : WasAppended old new text) (begun : NothingOr old new (SomeLinkedBegun names files old new))
     (k : ℕ) (bytes : List ℕ) (method : MethodRow) (at : slice_get files k ≡ Some bytes) (has : Contains (methods_of bytes) method) (all : TellLinkedProved text files k method) where

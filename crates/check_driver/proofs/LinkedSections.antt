@@ -1,5 +1,5 @@
--- A line in a section of the reports of linked files: it is one of the report of its file, and a method that it tells to
--- be proved is safe.
+-- A line in a section of the reports of linked files: it is one of the report of its file, and a method that it tells
+-- to be proved is safe.
 use Rattle.std.proofs.Common.{◌≡◌, ℕ, zero, suc, ◌+◌, List, [], ◌∷◌, ◌++◌, map, take, zip, length, get_or, Option, Some, None, slice_get, codes, refl, sym, ap, subst, ◌∙◌, append_assoc, arith, inl, inr}
 use Rattle.std.specs.Prelude.{Contains}
 use Rattle.std.specs.List.{AllByRecursion, flat_map, range_with_len}
@@ -13,20 +13,20 @@ use Rattle.cc_base.proofs.SinkLemmas.{AppendsFront-none}
 use Rattle.cc_base.specs.Digits.{hex}
 use Rattle.cc_base.specs.Sink.{AppendsFront}
 use Rattle.unit_builder.specs.Linked.{linked, linked_entries}
-use Rattle.unit_builder.specs.Outcomes.{entries_in}
+use Rattle.unit_builder.specs.Outcomes.{entries_in, outcome_in}
 use Rattle.unit_builder.specs.Scopes.{scope_in}
-use Rattle.unit_builder.specs.declared.entry.MethodEntry.{MethodEntry}
-use Rattle.unit_verdicts.specs.Picks.{Manner, limit_manner}
+use Rattle.unit_verdicts.specs.Picks.{Manner}
 use Rattle.check_driver.specs.Headline.{WasAppended}
 use Rattle.check_driver.specs.LinkedHeadline.{SomeLinkedBegun}
-use Rattle.check_driver.specs.LinkedReports.{CanRun, LinkedBegun, ReportedFile, ReportsBegun, file_report, file_reports, first_refused}
+use Rattle.check_driver.specs.LinkedReports.{LinkedBegun, ReportedFile, ReportsBegun, file_report, file_reports, first_refused}
+use Rattle.assembly_reports.specs.Reportable.{CanRun}
 use Rattle.check_driver.specs.NothingOr.{NothingOr}
-use Rattle.check_driver.specs.Sections.{HasProvedLine, proved_line, section}
+use Rattle.assembly_reports.specs.Sections.{HasProvedLine, proved_line, section}
 use Rattle.check_driver.proofs.LinkedFiles.{none_of_both}
-use Rattle.check_driver.proofs.PrintedMethods.{IsSafeIn}
-use Rattle.check_driver.proofs.PrintedSafety.{report_one_line, said_method}
+use Rattle.assembly_reports.proofs.PrintedMethods.{IsSafeIn}
+use Rattle.assembly_reports.proofs.PrintedSafety.{report_one_line, said_method}
 use Rattle.check_driver.proofs.ReportSections.{IsToldBy, report_is_section, section_told}
-use Rattle.check_driver.proofs.Reported.{method_said, report_is_lines, report_said}
+use Rattle.assembly_reports.proofs.Reported.{method_said, report_is_lines, report_said}
 
 -- ---- files by their numbers
 
@@ -108,7 +108,7 @@ module _ (names files : List (List ℕ)) (old new : Option (List ℕ)) (text : L
       subst (AppendsFront old new) (ap (file_reports manner) taken ∙ flat_map-map (file_report manner) entries (take n numbered)) begun.front in
       let told =
       section_told (report manner) (said manner) can_run (λ (item : NumberedFile). report_is_lines item.0 manner (entries_in (linked files) item.1))
-      (λ (item : NumberedFile) (known : can_run item). report_one_line item.0 manner (scope_in (linked files) item.1) known)
+      (λ (item : NumberedFile) (known : can_run item). report_one_line item.0 manner ((linked files).bytes item.1) (outcome_in (scope_in (linked files) item.1)) known)
       (λ (item : NumberedFile). report_is_section item.0 manner (entries_in (linked files) item.1)) numbered n old new text k line each front appended has in
       let same : told.item.1 ≡ k = numbered_at names 0 (length files) k told.item told.kth ∙ omega arith in
       record {
@@ -129,7 +129,7 @@ module _ (names files : List (List ℕ)) (old new : Option (List ℕ)) (text : L
 pub record IsSafeOf (files : List (List ℕ)) (k : ℕ) (method : MethodRow) : Type 0 where
   pub accepted : first_refused files ≡ None
   pub known : CanRun (entries_in (linked files) k)
-  pub safe : IsSafeIn (scope_in (linked files) k) method
+  pub safe : IsSafeIn (outcome_in (scope_in (linked files) k)) method
 
 module _ (names files : List (List ℕ)) (old new : Option (List ℕ)) (text : List ℕ) (appended : WasAppended old new text) (begun : NothingOr old new (SomeLinkedBegun names files old new)) where
   pub section_safe : (k : ℕ) (bytes : List ℕ) (method : MethodRow) → slice_get files k ≡ Some bytes → Contains (methods_of bytes) method → HasProvedLine (section k text) method
@@ -144,7 +144,8 @@ module _ (names files : List (List ℕ)) (old new : Option (List ℕ)) (text : L
         accepted = one.accepted;
         known = one.known;
         safe =
-            said_method one.name one.manner (scope_in (linked files) k) method (subst (λ (b : List ℕ). FirstBroken b ≡ None) (sym asm) (each_accepted files k bytes one.accepted at)) one.known
+            said_method one.name one.manner ((linked files).bytes k) (outcome_in (scope_in (linked files) k)) method
+            (subst (λ (b : List ℕ). FirstBroken b ≡ None) (sym asm) (each_accepted files k bytes one.accepted at)) one.known
             (subst (λ (b : List ℕ). Contains (methods_of b) method) (sym asm) has)
             (subst (Contains (report_said one.name one.manner (entries_in (linked files) k))) same one.has);
       }

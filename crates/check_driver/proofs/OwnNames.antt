@@ -8,13 +8,13 @@ use Rattle.std.proofs.lemmas.List.{get_or_past}
 use Rattle.std.proofs.lemmas.List.Quantifiers.{position-Some}
 use Rattle.std.proofs.lemmas.List.Sums.{sum_by-cons}
 use Rattle.std.proofs.lemmas.Slice.Eq.{bytes_eq-Decides}
-use Rattle.command_words.specs.Words.{MAX_REFS, are_check_words, are_few, are_refs_named, cache_index, cache_name, check_command, check_files, check_words, command_of, command_of_three, command_of_two, file_command, gen_command, gen_told, il_command, is_cache, is_check_word, is_name_word, is_own_name, is_proof, is_ref, linked_words, MAX_METHODS, MAX_SEED, name_place, names_file, names_run, other_command, padded, proof_index, proof_name, refs_from, refute_command, run_command, run_steps, runs_told, tells_name, tells_show, verify_command, args_end, word_at, word_index}
-use Rattle.run_arguments.specs.Numbers.{number_of_word}
+use Rattle.command_words.specs.Words.{are_check_words, are_few, are_refs_named, cache_index, cache_name, check_files, check_words, command_of, infers_alone, is_cache, is_check_word, is_name_word, is_own_name, is_proof, name_place, names_file, proof_index, proof_name, tells_name, tells_option, word_at, word_index}
 use Rattle.command_words.specs.declared.check_words.CheckWords.{CheckWords}
 use Rattle.command_words.specs.declared.command.Command.{Command}
 use Rattle.command_words.specs.declared.command.Command.TheVariants as commands
 use Rattle.command_words.specs.declared.linked_words.LinkedWords.{LinkedWords}
-use Rattle.check_driver.proofs.Members.{contains_first, none_contained}
+use Rattle.command_words.proofs.CheckCommands.{AreLinked, check_told, linked_told}
+use Rattle.assembly_reports.proofs.Members.{contains_first, none_contained}
 
 -- ---- a word that stands at one place alone
 
@@ -98,7 +98,7 @@ known : (rest : Words) (check : CheckWords) → IsCheckOf rest check → IsKnown
 unfolding check_words
 known rest check is =
     let both = checked_if (are_check_words rest) _ check is in
-    let named = list_all is_check_word rest && are_few rest && are_refs_named rest in
+    let named = list_all is_check_word rest && are_few rest && infers_alone rest && are_refs_named rest in
     let last = and_parts (named && is_own_name rest (name_place is_cache rest)) (is_own_name rest (name_place is_proof rest)) both.0 in
     let before = and_parts named (is_own_name rest (name_place is_cache rest)) last.0 in record {
       cache_own = before.1;
@@ -227,76 +227,14 @@ file_apart is_option first rest check index own count file its apart = λ same.
 
 names_parts : (check : CheckWords) (index : ℕ) → names_file check index ≡ true → (tells_name check.cache index ≡ false) × (tells_name check.proof index ≡ false)
 names_parts check index is =
-    let last = and_parts (not_show && not (tells_name check.cache index)) (not (tells_name check.proof index)) is in
-    let before = and_parts not_show (not (tells_name check.cache index)) last.0 in
+    let last = and_parts (no_option && not (tells_name check.cache index)) (not (tells_name check.proof index)) is in
+    let before = and_parts no_option (not (tells_name check.cache index)) last.0 in
     (not_true (tells_name check.cache index) before.1, not_true (tells_name check.proof index) last.1)
   where
-    not_show : Bool
-    not_show = not (tells_show check.show index)
+    no_option : Bool
+    no_option = not (tells_option check.show index) && not (tells_option check.infer index)
 
 -- ---- commands
-
--- No check.
-abbrev IsOther : Option Command → Type 0
-IsOther (Some (commands.Check check)) = ⊥
-IsOther (Some (commands.Linked linked)) = ⊥
-IsOther _ = Unit {0}
-
-other_if : (test : Bool) (a b : Option Command) → IsOther a → IsOther b → IsOther (cond test a b)
-other_if true a b one other = one
-other_if false a b one other = other
-
-other_map : (make : ℕ → Command) (number : Option ℕ) → ((n : ℕ) → IsOther (Some (make n))) → IsOther (option_map make number)
-other_map make None is = tt
-other_map make (Some n) is = is n
-
-other_gen : (seed count : Option ℕ) → IsOther (gen_told seed count)
-other_gen (Some seed) (Some count) = other_if (count == 0) None (Some (commands.Gen seed count)) tt tt
-other_gen (Some seed) None = tt
-other_gen None count = tt
-
-other_file : (word : List ℕ) → IsOther (file_command word 1)
-other_file word =
-    other_if (bytes_eq word (codes "unit")) (Some (commands.Unit 1)) (cond (bytes_eq word (codes "list")) (Some (commands.List 1)) None) tt
-    (other_if (bytes_eq word (codes "list")) (Some (commands.List 1)) None tt tt)
-
-other_two : (word file : List ℕ) → IsOther (command_of_two word file)
-other_two word file = other_if (is_name_word file) (file_command word 1) None (other_file word) tt
-
-other_names : (command : Command) (first second : List ℕ) → IsOther (Some command) → IsOther (cond (is_name_word first && is_name_word second) (Some command) None)
-other_names command first second other = other_if (is_name_word first && is_name_word second) (Some command) None other tt
-
-other_three : (word first second : List ℕ) → IsOther (command_of_three word first second)
-unfolding command_of_three
-other_three word first second =
-    let verify = cond (bytes_eq word (codes "verify")) (verify_command first second) None in
-    other_if (bytes_eq word (codes "il")) (il_command first second) (cond (bytes_eq word (codes "gen")) (gen_command first second) verify)
-    (other_names (commands.Il 1 2) first second tt)
-    (other_if (bytes_eq word (codes "gen")) (gen_command first second) verify (other_gen (number_of_word MAX_SEED first) (number_of_word MAX_METHODS second))
-    (other_if (bytes_eq word (codes "verify")) (verify_command first second) None (other_names (commands.Verify 1 2) first second tt) tt))
-
--- A run with so many steps.
-abbrev run_of : Words → ℕ → Command
-run_of words steps = commands.Run (record { file = 1; method = 2; args_end = args_end words; steps = steps })
-
-other_run : (words : Words) → IsOther (run_command words)
-unfolding run_command
-other_run words = other_if (names_run words) (option_map (run_of words) (run_steps words)) None (other_map (run_of words) (run_steps words) (λ n. tt)) tt
-
-other_refute : (first second : List ℕ) (args : Words) → IsOther (refute_command first second args)
-other_refute first second args =
-    other_if (is_name_word first && is_name_word second) (option_map (commands.Refute 1 2) (runs_told args)) None (other_map (commands.Refute 1 2) (runs_told args) (λ n. tt)) tt
-
-other_is : (words : Words) → IsOther (other_command words)
-other_is [] = tt
-other_is (word ∷ []) = tt
-other_is (word ∷ file ∷ []) = other_two word file
-other_is (word ∷ first ∷ second ∷ args) =
-    let last = cond (length args == 0) (command_of_three word first second) None in
-    other_if (bytes_eq word (codes "run")) (run_command (word ∷ first ∷ second ∷ args)) (cond (bytes_eq word (codes "refute")) (refute_command first second args) last)
-    (other_run (word ∷ first ∷ second ∷ args))
-    (other_if (bytes_eq word (codes "refute")) (refute_command first second args) last (other_refute first second args)
-    (other_if (length args == 0) (command_of_three word first second) None (other_three word first second) tt))
 
 -- The words of a check: `check`, and those after it.
 record IsCheckWords (words : Words) (check : CheckWords) : Type 0 where
@@ -305,46 +243,16 @@ record IsCheckWords (words : Words) (check : CheckWords) : Type 0 where
   same : words ≡ first ∷ rest
   is : IsKnown rest check
 
-check_made : (test : Bool) (found : Option CheckWords) (other : Option LinkedWords) (check : CheckWords)
-    → cond test (option_map commands.Check found) (option_map commands.Linked other) ≡ Some (commands.Check check) → found ≡ Some check
-check_made true None other check e = absurd cc
-check_made true (Some its) other check e = cc
-check_made false found None check e = absurd cc
-check_made false found (Some linked) check e = absurd cc
-
-check_by : (word : List ℕ) (rest : Words) (check : CheckWords) (test : Bool) → cond test (check_command rest) (other_command (word ∷ rest)) ≡ Some (commands.Check check)
-    → check_words rest ≡ Some check
-check_by word rest check true is = check_made (count_by is_ref rest == 0) (check_words rest) (linked_words rest) check is
-check_by word rest check false is = absurd (subst IsOther is (other_is (word ∷ rest)))
-
 check_is : (words : Words) (check : CheckWords) → command_of words ≡ Some (commands.Check check) → IsCheckWords words check
 check_is [] check is = absurd cc
 check_is (word ∷ rest) check is =
-    record { first = word; rest = rest; same = refl; is = known rest check (check_by word rest check (bytes_eq word (codes "check")) is) }
+    record { first = word; rest = rest; same = refl; is = known rest check (check_told word rest check is) }
 
--- The words of a check with references are those of a check.
-linked_made : (test : Bool) (found : Option CheckWords) (refs : List (Option ℕ)) (linked : LinkedWords)
-    → cond test (option_map commands.Check found) (option_map commands.Linked (option_map (λ check. record { check = check; refs = refs }) found)) ≡ Some (commands.Linked linked)
-    → found ≡ Some linked.check
-linked_made true None refs linked e = absurd cc
-linked_made true (Some its) refs linked e = absurd cc
-linked_made false None refs linked e = absurd cc
-linked_made false (Some its) refs linked e = ap its_check e
-  where
-    its_check : Option Command → Option CheckWords
-    its_check (Some (commands.Linked words)) = Some words.check
-    its_check _ = None
-
-linked_by : (word : List ℕ) (rest : Words) (linked : LinkedWords) (test : Bool) → cond test (check_command rest) (other_command (word ∷ rest)) ≡ Some (commands.Linked linked)
-    → check_words rest ≡ Some linked.check
-unfolding linked_words
-linked_by word rest linked true is = linked_made (count_by is_ref rest == 0) (check_words rest) (padded MAX_REFS (refs_from 1 rest)) linked is
-linked_by word rest linked false is = absurd (subst IsOther is (other_is (word ∷ rest)))
-
+-- So are those with references.
 linked_is : (words : Words) (linked : LinkedWords) → command_of words ≡ Some (commands.Linked linked) → IsCheckWords words linked.check
 linked_is [] linked is = absurd cc
 linked_is (word ∷ rest) linked is =
-    record { first = word; rest = rest; same = refl; is = known rest linked.check (linked_by word rest linked (bytes_eq word (codes "check")) is) }
+    record { first = word; rest = rest; same = refl; is = known rest linked.check (AreLinked.is (linked_told word rest linked is)) }
 
 -- The proof file of a check has another name than its cache.
 names_apart : (words : Words) (check : CheckWords) (cache proof : ℕ) → IsCheckWords words check → check.cache ≡ Some cache → check.proof ≡ Some proof

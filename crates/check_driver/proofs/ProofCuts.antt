@@ -1,5 +1,5 @@
 -- What was read of a proof file that a read cut off is what is read of the whole.
-use Rattle.std.proofs.Common.{◌≡◌, ℕ, ◌<◌, ◌≤◌, List, [], ◌∷◌, length, take, Vec, Global, Option, Some, None, refl, sym, ap, subst, ◌∙◌, arith, inl, inr, length-take, unwrap_or}
+use Rattle.std.proofs.Common.{◌≡◌, ℕ, ◌<◌, List, [], ◌∷◌, length, take, Vec, Global, Option, Some, None, refl, sym, ap, subst, ◌∙◌, arith, inl, inr, length-take, unwrap_or}
 use Rattle.std.proofs.lemmas.Bool.{cases_lt}
 use Rattle.std.proofs.lemmas.List.{take_all}
 use Rattle.std.proofs.lemmas.Option.{same_Some}

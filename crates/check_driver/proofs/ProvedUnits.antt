@@ -25,11 +25,12 @@ use Rattle.check_driver.specs.Expected.{expected, unit_answer, unit_file_answer}
 use Rattle.check_driver.specs.CacheMet.{CallMet}
 use Rattle.check_driver.specs.Met.{AreUnder}
 use Rattle.check_driver.specs.ProvedUnit.{AreSpelled, AsksForUnit, IfUnit, IsHeldSpelled, PrintsProvedUnit, SpellSafeUnit}
-use Rattle.check_driver.specs.ReportText.{unit_counts, unit_report, unit_verdicts, verdict_line}
-use Rattle.check_driver.specs.Sections.{lines_of}
+use Rattle.assembly_reports.specs.Labels.{labels_of}
+use Rattle.assembly_reports.specs.ReportText.{unit_counts, unit_report, unit_verdicts, verdict_line}
+use Rattle.assembly_reports.specs.Sections.{lines_of}
 use Rattle.check_driver.proofs.OnlyFile.{file_asked, same_appended}
-use Rattle.check_driver.proofs.LinesOf.{first_line}
-use Rattle.check_driver.proofs.PrintedMethods.{same_parts}
+use Rattle.assembly_reports.proofs.LinesOf.{first_line}
+use Rattle.assembly_reports.proofs.PrintedMethods.{same_parts}
 
 -- ---- the line of a unit
 
@@ -59,7 +60,7 @@ report_begins : (unit : MethodUnit) → (more : List ℕ) × (unit_report unit �
 unfolding unit_report
 report_begins unit =
     let found = unit_verdicts unit in
-    let lines = flat_map (verdict_line unit.callees) found in
+    let lines = flat_map (verdict_line (labels_of unit)) found in
     let summary = summary_line (unit_counts found) in
     (lines ++ summary, append_assoc (unit_line unit (all_proved found)) lines summary ∙ append_assoc (unit_said unit (all_proved found)) (codes "\n") (lines ++ summary))
 

@@ -1,32 +1,30 @@
 -- The sections of the reports that were begun.
-use Rattle.std.proofs.Common.{◌≡◌, ◌≢◌, ℕ, List, [], ◌∷◌, ◌++◌, map, get_or, take, Option, Some, slice_get, slice_index_or, refl, sym, ap, subst, ◌∙◌, arith}
+use Rattle.std.proofs.Common.{◌≡◌, ◌≢◌, ℕ, Bool, true, false, List, [], ◌∷◌, ◌++◌, get_or, take, Option, Some, slice_get, slice_index_or, refl, sym, ap, subst, ◌∙◌, arith}
 use Rattle.std.specs.Prelude.{Contains}
 use Rattle.std.specs.List.{AllByRecursion, flat_map}
 use Rattle.std.proofs.lemmas.Bool.{ne_eqb}
 use Rattle.cc_base.specs.Sink.{AppendsFront, IsFront}
-use Rattle.cil_model.specs.declared.unit.CalleeInfo.{CalleeInfo}
-use Rattle.invariant_checker.specs.declared.verdict.Verdict.{Verdict}
-use Rattle.unit_builder.specs.Outcomes.{entries_in, entries_of}
-use Rattle.unit_builder.specs.Scopes.{Scope, scope_of}
+use Rattle.unit_builder.specs.Outcomes.{entries_of, outcome_of}
 use Rattle.unit_builder.specs.declared.entry.MethodEntry.{MethodEntry}
 use Rattle.unit_builder.specs.declared.entry.Outcome.{Outcome}
 use Rattle.answer_lines.specs.declared.lines.Counts.{Counts}
 use Rattle.answer_lines.proofs.SingleLines.{summary_front, summary_said}
 use Rattle.answer_lines.proofs.WholeLines.{IsOneLine, as_lines}
-use Rattle.check_driver.specs.CheckText.{Finding, NotAnalysed, WithVerdicts, all_counts, check_text, outcome_finding, outcome_shown, verdict_text}
-use Rattle.check_driver.specs.Checked.{AreBegun, IsReportable, report_of}
+use Rattle.assembly_reports.specs.CheckText.{all_counts, outcome_finding, outcome_shown, verdict_text}
+use Rattle.check_driver.specs.Checked.{AreBegun, report_of}
+use Rattle.assembly_reports.specs.Reportable.{IsReportable}
 use Rattle.check_driver.specs.Headline.{WasAppended}
-use Rattle.check_driver.specs.LinkedReports.{CanRun}
-use Rattle.check_driver.specs.Sections.{lines_of, section, sections_of}
-use Rattle.check_driver.proofs.Members.{all_of_each, held_at, taken_at}
+use Rattle.assembly_reports.specs.InferredUnits.{inferred_entries, inferred_outcome, reported_entries}
+use Rattle.assembly_reports.specs.Sections.{lines_of, section, sections_of}
+use Rattle.assembly_reports.proofs.Members.{all_of_each, held_at, held_of, taken_at}
 use Rattle.check_driver.proofs.OnlyFile.{same_appended}
-use Rattle.check_driver.proofs.FindAll.{entries_alone}
-use Rattle.check_driver.proofs.PrintedSafety.{entries_with, report_one_line}
-use Rattle.check_driver.proofs.ReportTexts.{all_behind}
-use Rattle.check_driver.proofs.Reported.{entry_said, finding_said, lines_behind, method_said, report_is_lines, report_said, shown_said, verdict_said, verdicts_said}
-use Rattle.check_driver.proofs.SectionLemmas.{IsInside, IsSection, front_of_lines, section_of_front}
-use Rattle.check_driver.proofs.ShownLines.{no_shown_line}
-use Rattle.unit_verdicts.specs.Picks.{Manner}
+use Rattle.assembly_reports.proofs.InferredEntries.{inferred_runnable}
+use Rattle.assembly_reports.proofs.PrintedSafety.{report_one_line}
+use Rattle.assembly_reports.proofs.ReportTexts.{IsSpaced, all_behind, verdicts_spaced}
+use Rattle.assembly_reports.proofs.Reported.{entry_said, lines_behind, method_said, outcome_said, report_is_lines, report_said, shown_said, verdicts_said}
+use Rattle.assembly_reports.proofs.SectionLemmas.{IsInside, IsSection, front_of_lines, section_of_front}
+use Rattle.assembly_reports.proofs.ShownLines.{no_shown_line}
+use Rattle.unit_verdicts.specs.Picks.{Manner, Pick}
 
 -- ---- a report is a section
 
@@ -39,18 +37,14 @@ method_inside : (token : ℕ) (name text : List ℕ) → IsInside (method_said t
 unfolding method_said
 method_inside token name text = inside (method_said token name text) (λ e. let letters : 109 ≡ 97 = e in omega (arith, letters))
 
-verdict_inside : (callees : List CalleeInfo) (v : Verdict) → IsInside (verdict_said callees v)
-unfolding verdict_said
-verdict_inside callees v = inside (verdict_said callees v) (λ e. let letters : 32 ≡ 97 = e in omega (arith, letters))
+-- Neither does one that begins with a space.
+spaced_inside : (line : List ℕ) → IsSpaced line → IsInside line
+spaced_inside line spaced = inside line (λ letter. let letters : 97 ≡ 32 = sym letter ∙ spaced in omega (arith, letters))
 
-all_verdicts_inside : (callees : List CalleeInfo) (found : List Verdict) → AllByRecursion IsInside (map (verdict_said callees) found)
-all_verdicts_inside callees [] = tt
-all_verdicts_inside callees (v ∷ found) = (verdict_inside callees v, all_verdicts_inside callees found)
-
-verdicts_inside : (found : Finding) → AllByRecursion IsInside (verdicts_said found)
-unfolding verdicts_said
-verdicts_inside (WithVerdicts callees found) = all_verdicts_inside callees found
-verdicts_inside (NotAnalysed reason) = tt
+verdicts_inside : (pick : Pick) (outcome : Outcome) → AllByRecursion IsInside (verdicts_said pick outcome)
+verdicts_inside pick outcome =
+    all_of_each IsInside (verdicts_said pick outcome)
+    (λ line has. spaced_inside line (held_of IsSpaced (verdicts_said pick outcome) line (verdicts_spaced pick outcome) has))
 
 shown_inside : (manner : Manner) (outcome : Outcome) → AllByRecursion IsInside (shown_said manner outcome)
 unfolding shown_said
@@ -59,11 +53,11 @@ shown_inside manner outcome =
     (λ line has. inside line (λ letter. no_shown_line manner outcome line (λ space. let letters : 97 ≡ 32 = sym letter ∙ space in omega (arith, letters)) has))
 
 entry_inside : (manner : Manner) (entry : MethodEntry) → AllByRecursion IsInside (entry_said manner entry)
-unfolding entry_said finding_said
+unfolding entry_said outcome_said
 entry_inside manner entry =
-    let found = outcome_finding manner.pick entry.outcome in
-    all_behind IsInside (method_said entry.token.0 entry.name (verdict_text found) ∷ verdicts_said found) (shown_said manner entry.outcome)
-    (method_inside entry.token.0 entry.name (verdict_text found), verdicts_inside found) (shown_inside manner entry.outcome)
+    let text = verdict_text (outcome_finding manner.pick entry.outcome) in
+    all_behind IsInside (method_said entry.token.0 entry.name text ∷ verdicts_said manner.pick entry.outcome) (shown_said manner entry.outcome)
+    (method_inside entry.token.0 entry.name text, verdicts_inside manner.pick entry.outcome) (shown_inside manner entry.outcome)
 
 entries_inside : (manner : Manner) (entries : List MethodEntry) → AllByRecursion IsInside (flat_map (entry_said manner) entries)
 entries_inside manner [] = tt
@@ -130,21 +124,23 @@ module _ {X : Type 0} (report : X → List ℕ) (said : X → List (List ℕ)) (
 
 -- ---- the reports of several files, each alone
 
-abbrev pub said_of : Manner → List ℕ × List ℕ → List (List ℕ)
-said_of manner (name, bytes) = report_said name manner (entries_of bytes)
+abbrev pub said_of : Bool → Manner → List ℕ × List ℕ → List (List ℕ)
+said_of infer manner (name, bytes) = report_said name manner (reported_entries infer manner.pick bytes)
 
-whole_of : (manner : Manner) (file : List ℕ × List ℕ) → IsReportable file.1 → AllByRecursion IsOneLine (said_of manner file)
-whole_of manner (name, bytes) known =
-    subst (λ (entries : List MethodEntry). AllByRecursion IsOneLine (report_said name manner entries)) (entries_alone bytes)
-    (report_one_line name manner (scope_of bytes) (subst CanRun (sym (entries_alone bytes)) known.runnable))
+whole_of : (infer : Bool) (manner : Manner) (file : List ℕ × List ℕ) → IsReportable file.1 → AllByRecursion IsOneLine (said_of infer manner file)
+unfolding entries_of inferred_entries
+whole_of false manner (name, bytes) known = report_one_line name manner bytes (outcome_of bytes) known.runnable
+whole_of true manner (name, bytes) known =
+    report_one_line name manner bytes (inferred_outcome manner.pick bytes) (inferred_runnable manner.pick bytes known.accepted known.runnable)
 
 -- File k can be reported, and its report has the line.
-abbrev pub IsToldOf : Manner → List (List ℕ × List ℕ) → ℕ → List ℕ → Type 0
-IsToldOf manner files k line = IsToldBy (said_of manner) (λ file. IsReportable file.1) files k line
+abbrev pub IsToldOf : Bool → Manner → List (List ℕ × List ℕ) → ℕ → List ℕ → Type 0
+IsToldOf infer manner files k line = IsToldBy (said_of infer manner) (λ file. IsReportable file.1) files k line
 
 -- A line of section k of what was appended is one of the report of file k.
-pub begun_section : (manner : Manner) (files : List (List ℕ × List ℕ)) (old new : Option (List ℕ)) (text : List ℕ) (k : ℕ) (line : List ℕ) → AreBegun manner files old new
-    → WasAppended old new text → Contains (section k text) line → IsToldOf manner files k line
-begun_section manner files old new text k line begun appended has =
-    section_told (report_of manner) (said_of manner) (λ (file : List ℕ × List ℕ). IsReportable file.1) (λ (file : List ℕ × List ℕ). report_is_lines file.0 manner (entries_of file.1))
-    (whole_of manner) (λ (file : List ℕ × List ℕ). report_is_section file.0 manner (entries_of file.1)) files begun.count old new text k line begun.each begun.front appended has
+pub begun_section : (infer : Bool) (manner : Manner) (files : List (List ℕ × List ℕ)) (old new : Option (List ℕ)) (text : List ℕ) (k : ℕ) (line : List ℕ) → AreBegun infer manner files old new
+    → WasAppended old new text → Contains (section k text) line → IsToldOf infer manner files k line
+begun_section infer manner files old new text k line begun appended has =
+    section_told (report_of infer manner) (said_of infer manner) (λ (file : List ℕ × List ℕ). IsReportable file.1)
+    (λ (file : List ℕ × List ℕ). report_is_lines file.0 manner (reported_entries infer manner.pick file.1)) (whole_of infer manner)
+    (λ (file : List ℕ × List ℕ). report_is_section file.0 manner (reported_entries infer manner.pick file.1)) files begun.count old new text k line begun.each begun.front appended has

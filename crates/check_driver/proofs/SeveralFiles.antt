@@ -1,5 +1,5 @@
 -- The answers for the assemblies of a check, one after another: what is written, what is begun and what is asked.
-use Rattle.std.proofs.Common.{◌≡◌, ◌⊎◌, ℕ, suc, ◌-◌, ◌<◌, ◌≤◌, max, List, [], ◌∷◌, ◌++◌, take, drop, length, get_or, zip, Vec, Global, Option, Some, None, Result, Ok, Err, if◌then◌else◌, refl, sym, ap, subst, ◌∙◌, append-nil, inl, inr, arith}
+use Rattle.std.proofs.Common.{◌≡◌, ◌⊎◌, ℕ, Bool, suc, ◌-◌, ◌<◌, ◌≤◌, max, List, [], ◌∷◌, ◌++◌, take, drop, length, get_or, zip, Vec, Global, Option, Some, None, Result, Ok, Err, if◌then◌else◌, refl, sym, ap, subst, ◌∙◌, append-nil, inl, inr, arith}
 use Rattle.std.specs.Prelude.{IsErrOf}
 use Rattle.std.specs.List.{flat_map}
 use Rattle.std.proofs.Math.Seq.{take-length}
@@ -19,17 +19,19 @@ use Rattle.assembly_answers.specs.FaultText.{assembly_fault_text}
 use Rattle.asm_image.specs.Faults.{FirstBroken}
 use Rattle.asm_image.specs.declared.fault.AsmFault.{AsmFault}
 use Rattle.command_words.specs.Words.{word_at, words_at}
-use Rattle.unit_builder.specs.Outcomes.{entries_of}
-use Rattle.check_driver.specs.Asked.{asked_for, check_keys, judged_keys, keys_before}
-use Rattle.check_driver.specs.CheckText.{all_methods_proved, check_text}
+use Rattle.check_driver.specs.Asked.{check_keys, keys_before}
+use Rattle.assembly_reports.specs.JudgedUnits.{asked_for, report_keys, with_judged}
+use Rattle.assembly_reports.specs.CheckText.{all_methods_proved, check_text}
 use Rattle.check_driver.specs.Expected.{check_answer, checked_before}
-use Rattle.check_driver.specs.Checked.{AreBegun, AreRunnable, IsReportable, report_of}
+use Rattle.check_driver.specs.Checked.{AreBegun, report_of}
+use Rattle.assembly_reports.specs.Reportable.{AreRunnable, IsReportable}
 use Rattle.check_driver.specs.Known.{AreAllRunnable, RunnableBefore}
 use Rattle.check_driver.specs.Met.{bytes_read}
 use Rattle.check_driver.specs.NothingOr.{NothingOr}
 use Rattle.unit_verdicts.specs.Asked.{Asks}
-use Rattle.unit_verdicts.specs.Picks.{Manner}
+use Rattle.unit_verdicts.specs.Picks.{Manner, pick_from}
 use Rattle.unit_verdicts.specs.VerdictCache.{CachedUnits}
+use Rattle.unit_verdicts.specs.declared.source.Source.{Source}
 
 abbrev Keys : Type 0
 Keys = List (List ℕ)
@@ -110,29 +112,44 @@ gives_is a b r out err same gives = subst (λ (x : Answer). Gives x r out err) (
 
 -- ---- what is begun
 
-pub begun_none : (manner : Manner) (files : List (List ℕ × List ℕ)) (old new : Option (List ℕ)) → new ≡ old → AreBegun manner files old new
-begun_none manner files old new same = record { count = 0; each = tt; front = AppendsFront-none old new [] same }
+pub begun_none : (infer : Bool) (manner : Manner) (files : List (List ℕ × List ℕ)) (old new : Option (List ℕ)) → new ≡ old → AreBegun infer manner files old new
+begun_none infer manner files old new same = record { count = 0; each = tt; front = AppendsFront-none old new [] same }
 
 -- A front of the first report was written.
-pub begun_first : (manner : Manner) (name bytes : List ℕ) (files : List (List ℕ × List ℕ)) (old new : Option (List ℕ)) → NothingOr old new (IsReportable bytes)
-    → AppendsFront old new (check_text name manner bytes) → AreBegun manner ((name, bytes) ∷ files) old new
-begun_first manner name bytes files old new (inl same) front = begun_none manner ((name, bytes) ∷ files) old new same
-begun_first manner name bytes files old new (inr known) front =
-    record { count = 1; each = (known, tt); front = subst (AppendsFront old new) (sym (append-nil (check_text name manner bytes))) front }
+pub begun_first : (infer : Bool) (manner : Manner) (name bytes : List ℕ) (files : List (List ℕ × List ℕ)) (old new : Option (List ℕ)) → NothingOr old new (IsReportable bytes)
+    → AppendsFront old new (check_text infer name manner bytes) → AreBegun infer manner ((name, bytes) ∷ files) old new
+begun_first infer manner name bytes files old new (inl same) front = begun_none infer manner ((name, bytes) ∷ files) old new same
+begun_first infer manner name bytes files old new (inr known) front =
+    record { count = 1; each = (known, tt); front = subst (AppendsFront old new) (sym (append-nil (check_text infer name manner bytes))) front }
 
 -- The first report was written.
-pub begun_more : (manner : Manner) (name bytes : List ℕ) (files : List (List ℕ × List ℕ)) (old mid new : Option (List ℕ)) → IsReportable bytes
-    → mid ≡ appended old (check_text name manner bytes) → AreBegun manner files mid new → AreBegun manner ((name, bytes) ∷ files) old new
-begun_more manner name bytes files old mid new known whole later = record {
+pub begun_more : (infer : Bool) (manner : Manner) (name bytes : List ℕ) (files : List (List ℕ × List ℕ)) (old mid new : Option (List ℕ)) → IsReportable bytes
+    → mid ≡ appended old (check_text infer name manner bytes) → AreBegun infer manner files mid new → AreBegun infer manner ((name, bytes) ∷ files) old new
+begun_more infer manner name bytes files old mid new known whole later = record {
   count = suc later.count;
   each = (known, later.each);
-  front = AppendsFront-after old mid new (check_text name manner bytes) (flat_map (report_of manner) (take later.count files)) whole later.front;
+  front = AppendsFront-after old mid new (check_text infer name manner bytes) (flat_map (report_of infer manner) (take later.count files)) whole later.front;
 }
 
 -- ---- what is asked and judged
 
 pub asks_is : {X E : Type 0} (cache : CachedUnits) (a b : Keys) (r : Result X E) (old new : Keys) → a ≡ b → Asks (asked_for cache b) r old new → Asks (asked_for cache a) r old new
 asks_is cache a b r old new same asks = subst (λ (keys : Keys). Asks (asked_for cache keys) r old new) (sym same) asks
+
+-- What is asked for later files, and what is judged, told of the pick that was there before the first.
+module _ (infer : Bool) (old mid : CachedUnits) (first : Keys) (files : List (List ℕ)) where
+  abbrev later_keys : Source → Keys
+  later_keys held = check_keys infer (pick_from held) files
+
+  held_same : mid ≡ with_judged old first → mid.held ≡ old.held
+  held_same is = ap (λ (cache : CachedUnits). cache.held) is
+
+  pub asks_for_later : {X E : Type 0} (r : Result X E) (before new : Keys) → mid ≡ with_judged old first → Asks (asked_for mid (later_keys mid.held)) r before new
+      → Asks (asked_for mid (later_keys old.held)) r before new
+  asks_for_later r before new is asks = subst (λ (held : Source). Asks (asked_for mid (later_keys held)) r before new) (held_same is) asks
+
+  pub judged_for_later : (new : CachedUnits) → mid ≡ with_judged old first → new ≡ with_judged mid (later_keys mid.held) → new ≡ with_judged mid (later_keys old.held)
+  judged_for_later new is judged = subst (λ (held : Source). new ≡ with_judged mid (later_keys held)) (held_same is) judged
 
 -- ---- the files
 
@@ -144,9 +161,9 @@ pub no_runnable : (read : List (Vec ℕ Global)) → length read < 1 → AreAllR
 no_runnable read none = subst AreAllRunnable (sym (no_file read none)) tt
 
 -- Where no word names a file, the answer is that for none.
-pub no_answer : (manner : Manner) (words : List (List ℕ)) (indexes : List ℕ) (files : List (List ℕ)) → length indexes < 1 → check_answer manner (words_at words indexes) files ≡ output_answer 0 []
-no_answer manner words [] files none = refl
-no_answer manner words (index ∷ indexes) files none = absurd (omega (arith, none))
+pub no_answer : (infer : Bool) (manner : Manner) (words : List (List ℕ)) (indexes : List ℕ) (files : List (List ℕ)) → length indexes < 1 → check_answer infer manner (words_at words indexes) files ≡ output_answer 0 []
+no_answer infer manner words [] files none = refl
+no_answer infer manner words (index ∷ indexes) files none = absurd (omega (arith, none))
 
 -- What stands behind the first element.
 abbrev pub rest_of : {X : Type 0} → List X → List X
@@ -170,32 +187,32 @@ first_is words indexes read name file index bytes some some_read at is named sam
   bytes = ap bytes_read (parts_of read bytes bytes some_read (sym is)) ∙ ap (λ (b : List ℕ). b ∷ bytes_read (rest_of read)) (sym same);
 }
 
-module _ (manner : Manner) (words : List (List ℕ)) (indexes : List ℕ) (read : List (Vec ℕ Global)) (name file : List ℕ) (is : IsFirst words indexes read name file) where
+module _ (infer : Bool) (manner : Manner) (words : List (List ℕ)) (indexes : List ℕ) (read : List (Vec ℕ Global)) (name file : List ℕ) (is : IsFirst words indexes read name file) where
   abbrev pub others_answer : Answer
-  others_answer = check_answer manner (words_at words (rest_of indexes)) (bytes_read (rest_of read))
+  others_answer = check_answer infer manner (words_at words (rest_of indexes)) (bytes_read (rest_of read))
 
   answer_is : (fault : Option AsmFault) → FirstBroken file ≡ fault
-      → check_answer manner (words_at words indexes) (bytes_read read) ≡ checked_before name manner file fault others_answer
+      → check_answer infer manner (words_at words indexes) (bytes_read read) ≡ checked_before infer name manner file fault others_answer
   answer_is fault first =
-      ap (λ (names : List (List ℕ)). check_answer manner names (bytes_read read)) is.names
-      ∙ ap (check_answer manner (name ∷ words_at words (rest_of indexes))) is.bytes
-      ∙ ap (λ (found : Option AsmFault). checked_before name manner file found others_answer) first
+      ap (λ (names : List (List ℕ)). check_answer infer manner names (bytes_read read)) is.names
+      ∙ ap (check_answer infer manner (name ∷ words_at words (rest_of indexes))) is.bytes
+      ∙ ap (λ (found : Option AsmFault). checked_before infer name manner file found others_answer) first
 
   pub answer_of_first : FirstBroken file ≡ None
-      → check_answer manner (words_at words indexes) (bytes_read read) ≡ answer_then (check_text name manner file) (if all_methods_proved manner.pick file then 0 else 1) others_answer
+      → check_answer infer manner (words_at words indexes) (bytes_read read) ≡ answer_then (check_text infer name manner file) (if all_methods_proved infer manner.pick file then 0 else 1) others_answer
   answer_of_first accepted = answer_is None accepted
 
   pub answer_refused : (fault : AsmFault) → FirstBroken file ≡ Some fault
-      → check_answer manner (words_at words indexes) (bytes_read read) ≡ refused_answer name (assembly_fault_text fault.cause) fault.at
+      → check_answer infer manner (words_at words indexes) (bytes_read read) ≡ refused_answer name (assembly_fault_text fault.cause) fault.at
   answer_refused fault first = answer_is (Some fault) first
 
-  keys_are : (fault : Option AsmFault) → FirstBroken file ≡ fault → check_keys (bytes_read read) ≡ keys_before file fault (check_keys (bytes_read (rest_of read)))
-  keys_are fault first = ap check_keys is.bytes ∙ ap (λ (found : Option AsmFault). keys_before file found (check_keys (bytes_read (rest_of read)))) first
+  keys_are : (fault : Option AsmFault) → FirstBroken file ≡ fault → check_keys infer manner.pick (bytes_read read) ≡ keys_before infer manner.pick file fault (check_keys infer manner.pick (bytes_read (rest_of read)))
+  keys_are fault first = ap (check_keys infer manner.pick) is.bytes ∙ ap (λ (found : Option AsmFault). keys_before infer manner.pick file found (check_keys infer manner.pick (bytes_read (rest_of read)))) first
 
-  pub keys_of_first : FirstBroken file ≡ None → check_keys (bytes_read read) ≡ judged_keys (entries_of file) ++ check_keys (bytes_read (rest_of read))
+  pub keys_of_first : FirstBroken file ≡ None → check_keys infer manner.pick (bytes_read read) ≡ report_keys infer manner.pick file ++ check_keys infer manner.pick (bytes_read (rest_of read))
   keys_of_first accepted = keys_are None accepted
 
-  pub no_keys : (fault : AsmFault) → FirstBroken file ≡ Some fault → check_keys (bytes_read read) ≡ []
+  pub no_keys : (fault : AsmFault) → FirstBroken file ≡ Some fault → check_keys infer manner.pick (bytes_read read) ≡ []
   no_keys fault first = keys_are (Some fault) first
 
   -- The units of this file can be run, and those of the files after it; or it is refused.
@@ -211,8 +228,8 @@ module _ (manner : Manner) (words : List (List ℕ)) (indexes : List ℕ) (read 
   runnable_refused fault first = runnable_is (Some fault) first tt
 
   -- What was begun of this file and of those after it was begun of all.
-  pub begun_of_first : (old new : Option (List ℕ)) → AreBegun manner ((name, file) ∷ zip (words_at words (rest_of indexes)) (bytes_read (rest_of read))) old new
-      → AreBegun manner (zip (words_at words indexes) (bytes_read read)) old new
+  pub begun_of_first : (old new : Option (List ℕ)) → AreBegun infer manner ((name, file) ∷ zip (words_at words (rest_of indexes)) (bytes_read (rest_of read))) old new
+      → AreBegun infer manner (zip (words_at words indexes) (bytes_read read)) old new
   begun_of_first old new begun =
-      subst (λ (files : List (List ℕ × List ℕ)). AreBegun manner files old new)
+      subst (λ (files : List (List ℕ × List ℕ)). AreBegun infer manner files old new)
       (sym (ap (λ (names : List (List ℕ)). zip names (bytes_read read)) is.names ∙ ap (zip (name ∷ words_at words (rest_of indexes))) is.bytes)) begun

@@ -1,5 +1,5 @@
 -- No answer has a status that tells an interruption, and only words that are no command are answered by the usage.
-use Rattle.std.proofs.Common.{◌≡◌, ◌≢◌, ◌⊎◌, ℕ, ◌<◌, max, Bool, true, false, List, [], ◌∷◌, Option, Some, None, Result, Ok, Err, if◌then◌else◌, nat_le, length, zip, refl, sym, subst, ◌∙◌, inl, inr, arith}
+use Rattle.std.proofs.Common.{◌≡◌, ◌≢◌, ◌⊎◌, ℕ, ◌<◌, max, Bool, true, false, List, [], ◌∷◌, Option, Some, None, Result, Ok, Err, if◌then◌else◌, nat_le, length, is_some, zip, refl, sym, subst, ◌∙◌, inl, inr, arith}
 use Rattle.std.specs.Prelude.{IfOk}
 use Rattle.std.proofs.lemmas.Bool.{cases_lt}
 use Rattle.asm_image.specs.Faults.{FirstBroken}
@@ -19,8 +19,8 @@ use Rattle.answer_lines.specs.declared.interrupt.Interrupt.{Interrupt}
 use Rattle.answer_lines.specs.declared.interrupt.Interrupt.TheVariants as interrupts
 use Rattle.answer_lines.proofs.Leaving.{IsUninterrupted}
 use Rattle.assembly_answers.proofs.Statuses.{IsOfBytes, of_few, of_il, of_list, of_refused, of_refute_file, of_run_file, plain_below}
-use Rattle.check_driver.specs.ReportText.{unit_verdicts}
-use Rattle.check_driver.specs.CheckText.{all_methods_proved}
+use Rattle.assembly_reports.specs.ReportText.{unit_verdicts}
+use Rattle.assembly_reports.specs.CheckText.{all_methods_proved}
 use Rattle.check_driver.specs.FilesLeft.{GivesOrUnreplaced}
 use Rattle.check_driver.specs.CacheMet.{CallMet}
 use Rattle.check_driver.specs.Expected.{bytes_answer, check_answer, check_manner, checked_before, command_answer, expected, file_at, missing_or, unit_answer, unit_file_answer, verify_answer}
@@ -57,16 +57,16 @@ of_greater a b one other =
       | inr not_less ↦ let is : a ≡ max a b = omega (arith, not_less) in subst IsOfBytes is one
     ]
 
-of_checked : (name : List ℕ) (manner : Manner) (bytes : List ℕ) (fault : Option AsmFault) (others : Answer) → IsOfBytes others.status
-    → IsOfBytes (checked_before name manner bytes fault others).status
-of_checked name manner bytes None others of = of_greater (if all_methods_proved manner.pick bytes then 0 else 1) others.status (of_report (all_methods_proved manner.pick bytes)) of
-of_checked name manner bytes (Some fault) others of = of_refused
+of_checked : (infer : Bool) (name : List ℕ) (manner : Manner) (bytes : List ℕ) (fault : Option AsmFault) (others : Answer) → IsOfBytes others.status
+    → IsOfBytes (checked_before infer name manner bytes fault others).status
+of_checked infer name manner bytes None others of = of_greater (if all_methods_proved infer manner.pick bytes then 0 else 1) others.status (of_report (all_methods_proved infer manner.pick bytes)) of
+of_checked infer name manner bytes (Some fault) others of = of_refused
 
-pub of_check : (manner : Manner) (names files : List (List ℕ)) → IsOfBytes (check_answer manner names files).status
-of_check manner [] files = of_few 0 (omega arith)
-of_check manner (name ∷ names) [] = of_few 0 (omega arith)
-of_check manner (name ∷ names) (bytes ∷ files) =
-    of_checked name manner bytes (FirstBroken bytes) (check_answer manner names files) (of_check manner names files)
+pub of_check : (infer : Bool) (manner : Manner) (names files : List (List ℕ)) → IsOfBytes (check_answer infer manner names files).status
+of_check infer manner [] files = of_few 0 (omega arith)
+of_check infer manner (name ∷ names) [] = of_few 0 (omega arith)
+of_check infer manner (name ∷ names) (bytes ∷ files) =
+    of_checked infer name manner bytes (FirstBroken bytes) (check_answer infer manner names files) (of_check infer manner names files)
 
 of_unrefused : (names : List (List ℕ)) (refused : Option RefusedFile) (answer : Answer) → IsOfBytes answer.status → IsOfBytes (refused_or names refused answer).status
 of_unrefused names (Some refused) answer of = of_refused
@@ -85,7 +85,7 @@ IsOfRead status = IsOfBytes status ⊎ (status ≡ 7)
 
 of_verify : (name by bytes : List ℕ) (read : Option ProofRead) (fault : Option AsmFault) → IsOfRead (verify_answer name by read bytes fault).status
 of_verify name by bytes read (Some fault) = inl of_refused
-of_verify name by bytes (Some (Whole entries)) None = inl (of_report (all_methods_proved (pick_from (OfProof entries)) bytes))
+of_verify name by bytes (Some (Whole entries)) None = inl (of_report (all_methods_proved false (pick_from (OfProof entries)) bytes))
 of_verify name by bytes (Some (Refused fault)) None = inl of_refused
 of_verify name by bytes None None = inr refl
 
@@ -93,14 +93,14 @@ of_bytes : (command : Command) (words : List (List ℕ)) (cache : Option (List �
 of_bytes (commands.Unit file) words cache read files = inl (of_unit_file (word_at words file) (file_at files 0))
 of_bytes (commands.List file) words cache read files = inl (of_list (word_at words file) (file_at files 0) (FirstBroken (file_at files 0)))
 of_bytes (commands.Il file method) words cache read files = inl (of_il (word_at words file) (word_at words method) (file_at files 0) (FirstBroken (file_at files 0)))
-of_bytes (commands.Check check) words cache read files = inl (of_check (check_manner check cache) (words_at words (check_files check)) files)
+of_bytes (commands.Check check) words cache read files = inl (of_check (is_some check.infer) (check_manner check cache) (words_at words (check_files check)) files)
 of_bytes (commands.Linked linked) words cache read files = inl (of_linked (check_manner linked.check cache) (words_at words (linked_files linked)) files)
 of_bytes (commands.Verify file proof) words cache read files = of_verify (word_at words file) (word_at words proof) (file_at files 0) read (FirstBroken (file_at files 0))
 of_bytes (commands.Run run) words cache read files =
     inl (of_run_file (word_at words run.file) (word_at words run.method) (args_told run words) run.steps (file_at files 0) (FirstBroken (file_at files 0)))
 of_bytes (commands.Refute file method runs) words cache read files =
     inl (of_refute_file (word_at words file) (word_at words method) runs (file_at files 0) (FirstBroken (file_at files 0)))
-of_bytes (commands.Gen seed count) words cache read files = inl (of_report (all_methods_proved limit_pick (generated_file seed count)))
+of_bytes (commands.Gen seed count) words cache read files = inl (of_report (all_methods_proved false limit_pick (generated_file seed count)))
 
 -- The status tells no interruption, or that memory ran out.
 abbrev IsKnown : ℕ → Type 0

@@ -8,8 +8,9 @@ use Rattle.answer_lines.specs.declared.interrupt.Interrupt.{Interrupt}
 use Rattle.proof_files.specs.declared.proof_fault.ProofFault.{ProofFault}
 use Rattle.proof_files.specs.declared.proof_fault.ProofFault.TheVariants as faults
 use Rattle.unit_verdicts.specs.Picks.{Manner}
-use Rattle.check_driver.specs.CheckText.{check_text}
-use Rattle.check_driver.specs.Checked.{AreBegun, IsReportable}
+use Rattle.assembly_reports.specs.CheckText.{check_text}
+use Rattle.check_driver.specs.Checked.{AreBegun}
+use Rattle.assembly_reports.specs.Reportable.{IsReportable}
 use Rattle.check_driver.specs.NothingOr.{NothingOr}
 use Rattle.check_driver.specs.ProofText.{proof_fault_text}
 use Rattle.check_driver.proofs.SeveralFiles.{begun_first}
@@ -22,10 +23,10 @@ proof_fault_plain (faults.Form at) = refl
 proof_fault_plain faults.Large = refl
 
 -- A report that was written, whole or in part, was begun.
-pub begun_written : {X : Type 0} (r : Result X Interrupt) (manner : Manner) (name bytes : List ℕ) (out : Change) → Writes r out (check_text name manner bytes)
-    → NothingOr out.old out.new (IsReportable bytes) → AreBegun manner ((name, bytes) ∷ []) out.old out.new
-begun_written (Ok x) manner name bytes out w known = begun_first manner name bytes [] out.old out.new known (AppendsFront-all out.old out.new (check_text name manner bytes) w.whole)
-begun_written (Err i) manner name bytes out w known = begun_first manner name bytes [] out.old out.new known w.front
+pub begun_written : {X : Type 0} (r : Result X Interrupt) (manner : Manner) (name bytes : List ℕ) (out : Change) → Writes r out (check_text false name manner bytes)
+    → NothingOr out.old out.new (IsReportable bytes) → AreBegun false manner ((name, bytes) ∷ []) out.old out.new
+begun_written (Ok x) manner name bytes out w known = begun_first false manner name bytes [] out.old out.new known (AppendsFront-all out.old out.new (check_text false name manner bytes) w.whole)
+begun_written (Err i) manner name bytes out w known = begun_first false manner name bytes [] out.old out.new known w.front
 
 -- The status of a report does not tell that memory ran out.
 few_of : (proved : Bool) (status : ℕ) → status ≡ (if proved then 0 else 1) → status ≢ 7

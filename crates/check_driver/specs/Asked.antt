@@ -1,5 +1,5 @@
 -- Which units a call asks its finder for. A unit is told by the bytes of its file.
-use Rattle.std.specs.Prelude.{◌≡◌, ◌≢◌, ◌||◌, ℕ, List, [], ◌∷◌, ◌++◌, length, Option, Some, None, is_some, Result, IfOk, nat_le, if◌then◌else◌}
+use Rattle.std.specs.Prelude.{◌≡◌, ◌≢◌, ◌||◌, ℕ, Bool, List, [], ◌∷◌, ◌++◌, length, Option, Some, None, is_some, Result, IfOk, nat_le, if◌then◌else◌}
 use Rattle.std.specs.List.{flat_map}
 use Rattle.asm_image.specs.Faults.{FirstBroken}
 use Rattle.asm_image.specs.declared.fault.AsmFault.{AsmFault}
@@ -7,18 +7,16 @@ use Rattle.cc_base.specs.Files.{READ_LIMIT}
 use Rattle.method_unit.specs.UnitFile.{first_unit_fault, unit_of}
 use Rattle.method_unit.specs.declared.unit_fault.UnitFault.{UnitFault}
 use Rattle.unit_builder.specs.Linked.{linked_entries}
-use Rattle.unit_builder.specs.Outcomes.{entries_of}
-use Rattle.unit_builder.specs.declared.entry.MethodEntry.{MethodEntry}
-use Rattle.unit_builder.specs.declared.entry.Outcome.{Outcome}
-use Rattle.unit_builder.specs.declared.entry.Outcome.TheVariants.{Analysed, Skipped}
 use Rattle.unit_form.specs.Spelling.{unit_bytes}
 use Rattle.answer_lines.specs.declared.interrupt.Interrupt.{Interrupt}
 use Rattle.check_driver.specs.Expected.{file_at}
+use Rattle.assembly_reports.specs.JudgedUnits.{judged_keys, report_keys, units_asked}
 use Rattle.check_driver.specs.Met.{contents, first_missing}
 use Rattle.check_driver.specs.CacheMet.{CallMet, cache_entries}
 use Rattle.check_driver.specs.LinkedReports.{RefusedFile, first_refused}
 use Rattle.result_cache.specs.Entries.{Entry}
-use Rattle.unit_verdicts.specs.Asked.{AsksFront, asked_from, distinct, unseen, without_entry}
+use Rattle.unit_verdicts.specs.Asked.{AsksFront, distinct, without_entry}
+use Rattle.unit_verdicts.specs.Picks.{Pick, pick_of}
 use Rattle.unit_verdicts.specs.VerdictCache.{CachedUnits}
 use Rattle.unit_verdicts.specs.declared.source.Source.TheVariants.{Cache as OfCache}
 use Rattle.command_words.specs.Words.{command_of, file_indexes, words_at}
@@ -29,33 +27,20 @@ use Rattle.written_assemblies.specs.GeneratedFiles.{generated_file}
 
 -- ---- the units of files
 
--- The unit of a method, where it is analysed.
-abbrev pub outcome_key : Outcome → List (List ℕ)
-outcome_key (Analysed unit) = unit_bytes unit ∷ []
-outcome_key (Skipped reason) = []
-
--- The units that are judged of these methods.
-abbrev pub judged_keys : List MethodEntry → List (List ℕ)
-judged_keys entries = flat_map (λ entry. outcome_key entry.outcome) entries
-
--- The units of an assembly that are judged, in the order of its methods, each once.
-unfoldable pub units_asked : List ℕ → List (List ℕ)
-units_asked bytes = distinct (judged_keys (entries_of bytes))
-
 -- The units of an assembly whose file has this first fault, or none, and those of the assemblies after it. One that is
 -- refused ends the check.
-abbrev pub keys_before : List ℕ → Option AsmFault → List (List ℕ) → List (List ℕ)
-keys_before bytes (Some fault) others = []
-keys_before bytes None others = judged_keys (entries_of bytes) ++ others
+abbrev pub keys_before : Bool → Pick → List ℕ → Option AsmFault → List (List ℕ) → List (List ℕ)
+keys_before infer pick bytes (Some fault) others = []
+keys_before infer pick bytes None others = report_keys infer pick bytes ++ others
 
 -- The units that are judged for the reports of assemblies with these bytes, in order.
-abbrev pub check_keys : List (List ℕ) → List (List ℕ)
-check_keys [] = []
-check_keys (bytes ∷ files) = keys_before bytes (FirstBroken bytes) (check_keys files)
+abbrev pub check_keys : Bool → Pick → List (List ℕ) → List (List ℕ)
+check_keys infer pick [] = []
+check_keys infer pick (bytes ∷ files) = keys_before infer pick bytes (FirstBroken bytes) (check_keys infer pick files)
 
 -- The units for which a finder is asked for these reports, where a cache has these entries: each once.
-abbrev pub check_asked : List Entry → List (List ℕ) → List (List ℕ)
-check_asked entries files = without_entry entries (distinct (check_keys files))
+abbrev pub check_asked : Bool → List Entry → List (List ℕ) → List (List ℕ)
+check_asked infer entries files = without_entry entries (distinct (check_keys infer (pick_of entries) files))
 
 -- The units of linked files where one is refused, or where none is.
 abbrev pub keys_unless : Option RefusedFile → List (List ℕ) → List (List ℕ)
@@ -78,37 +63,22 @@ unit_asked bytes None = unit_bytes (unit_of bytes) ∷ []
 abbrev pub unit_file_asked : List ℕ → List (List ℕ)
 unit_file_asked bytes = if nat_le READ_LIMIT (length bytes) then [] else unit_asked bytes (first_unit_fault bytes)
 
--- ---- units that are judged one after another
-
--- The cache once these units were judged too: those that it has not seen yet come last.
-abbrev pub with_judged : CachedUnits → List (List ℕ) → CachedUnits
-with_judged cache keys = record {
-  show = cache.show;
-  keeps = cache.keeps;
-  held = cache.held;
-  keys = cache.keys ++ unseen cache.keys keys;
-}
-
 -- The cache of a check, of which no unit was judged yet, where this is met under the name of its cache. Invariants are
--- kept where a cache or a proof file is to be left.
+-- kept where a cache or a proof file is to be left, and where Ensures are inferred of them.
 abbrev pub begun_units : CheckWords → Option (List ℕ) → CachedUnits
 begun_units check cache = record {
   show = is_some check.show;
-  keeps = is_some check.cache || is_some check.proof;
+  keeps = is_some check.cache || (is_some check.proof || is_some check.infer);
   held = OfCache (cache_entries cache);
   keys = [];
 }
-
--- What a finder is asked for as these units are judged.
-abbrev pub asked_for : CachedUnits → List (List ℕ) → List (List ℕ)
-asked_for cache keys = asked_from cache.held (unseen cache.keys keys)
 
 -- ---- commands
 
 -- For a command, what is met under the name of its cache, and the bytes of its files, in order.
 abbrev pub bytes_asked : Command → Option (List ℕ) → List (List ℕ) → List (List ℕ)
 bytes_asked (commands.Unit file) cache files = unit_file_asked (file_at files 0)
-bytes_asked (commands.Check check) cache files = check_asked (cache_entries cache) files
+bytes_asked (commands.Check check) cache files = check_asked (is_some check.infer) (cache_entries cache) files
 bytes_asked (commands.Linked linked) cache files = linked_asked (cache_entries cache) files
 bytes_asked (commands.Gen seed count) cache files = units_asked (generated_file seed count)
 bytes_asked (commands.Verify file proof) cache files = []

@@ -2,7 +2,7 @@
 use Rattle.std.specs.Prelude.{◌≡◌, ◌⊎◌, ◌<◌, ℕ, List, length, All, IfSome, Option, Some, None, option_map, Result, Ok, Err, Contains}
 use Rattle.std.specs.declared.alloc.Global.{Global}
 use Rattle.std.specs.declared.vec.Vec.{Vec}
-use Rattle.check_driver.specs.CacheMet.{CallMet, command_cache}
+use Rattle.check_driver.specs.CacheMet.{CallMet}
 use Rattle.check_driver.specs.Met.{AreContents, IsCacheContent, bytes_read, first_missing}
 use Rattle.check_driver.specs.declared.inputs.CallFiles.{CallFiles}
 use Rattle.check_driver.specs.declared.inputs.Inputs.{Inputs}
@@ -25,8 +25,8 @@ files_of given = bytes_read given.read.now
 abbrev pub cache_of : CallFiles → Option (List ℕ)
 cache_of given = cache_bytes given.cache.now
 
--- What was read is what a command of these words asks for: the words name its files, its cache and the proof file that it
--- leaves, and as many files were read.
+-- What was read is what a command of these words asks for: the words name its files, its cache and the proof file that
+-- it leaves, and as many files were read.
 pub record IsCalled (command : Command) (given : CallFiles) : Type 0 where
   pub used : All (λ index. index < length given.words.now) (used_indexes command)
   pub files : All (λ index. index < length given.words.now) (file_indexes command)

@@ -1,15 +1,15 @@
 -- What `verify` gives by the proof file that a check has left.
-use Rattle.std.specs.Prelude.{◌≡◌, ℕ, false, List, [], ◌∷◌, Option, Some, option_and_then}
+use Rattle.std.specs.Prelude.{◌≡◌, ℕ, false, List, [], ◌∷◌, Some, option_and_then}
 use Rattle.cc_base.specs.Files.{Held}
 use Rattle.check_driver.specs.Asked.{check_keys}
 use Rattle.check_driver.specs.CacheMet.{cache_entries}
-use Rattle.check_driver.specs.CheckText.{check_text}
+use Rattle.assembly_reports.specs.CheckText.{check_text}
 use Rattle.command_words.specs.Words.{cache_name, check_files, command_of, word_at}
 use Rattle.command_words.specs.declared.check_words.CheckWords.{CheckWords}
 use Rattle.command_words.specs.declared.command.Command.TheVariants as commands
 use Rattle.proof_files.specs.Proofs.{kept}
 use Rattle.unit_verdicts.specs.Asked.{distinct}
-use Rattle.unit_verdicts.specs.Picks.{Manner}
+use Rattle.unit_verdicts.specs.Picks.{Manner, pick_from}
 use Rattle.unit_verdicts.specs.ProofLeft.{proof_entries}
 use Rattle.unit_verdicts.specs.VerdictCache.{manner_under}
 use Rattle.unit_verdicts.specs.declared.source.Source.{Source}
@@ -25,10 +25,11 @@ plain_manner words held = manner_under false (source_held words held)
 
 -- A proof file has room for all units of an assembly with these bytes.
 abbrev pub IsUncut : Source → List ℕ → Type 0
-IsUncut held bytes = let entries = proof_entries held (distinct (check_keys (bytes ∷ []))) in kept entries ≡ entries
+IsUncut held bytes =
+    let entries = proof_entries held (distinct (check_keys false (pick_from held) (bytes ∷ []))) in kept entries ≡ entries
 
--- The words ask to check one file, which is held, and to leave a proof file, which has room for all its units. The other
--- words ask to verify that file by it.
+-- The words ask to check one file, which is held, and to leave a proof file, which has room for all its units. The
+-- other words ask to verify that file by it.
 pub record AsksToConfirm (words other : List (List ℕ)) (held : Held) : Type 0 where
   pub check : CheckWords
   pub file : ℕ
@@ -48,4 +49,4 @@ pub record AsksToConfirm (words other : List (List ℕ)) (held : Held) : Type 0 
 -- The report that a call of these words makes of an assembly of this name and with these bytes, without the lines of
 -- invariants.
 abbrev pub plain_report : List (List ℕ) → Held → List ℕ → List ℕ → List ℕ
-plain_report words held name bytes = check_text name (plain_manner words held) bytes
+plain_report words held name bytes = check_text false name (plain_manner words held) bytes

@@ -1,5 +1,5 @@
 -- What a call of the program gives where nothing interrupts it.
-use Rattle.std.specs.Prelude.{ℕ, false, List, [], ◌∷◌, ◌++◌, length, max, Option, Some, None, is_some, nat_le, if◌then◌else◌, codes, slice_index_or}
+use Rattle.std.specs.Prelude.{ℕ, Bool, false, List, [], ◌∷◌, ◌++◌, length, max, Option, Some, None, is_some, nat_le, if◌then◌else◌, codes, slice_index_or}
 use Rattle.asm_image.specs.Faults.{FirstBroken}
 use Rattle.asm_image.specs.declared.fault.AsmFault.{AsmFault}
 use Rattle.cc_base.specs.Files.{READ_LIMIT}
@@ -11,14 +11,14 @@ use Rattle.method_unit.specs.declared.unit_fault.UnitFault.{UnitFault}
 use Rattle.invariant_checker.specs.Counts.{all_proved}
 use Rattle.answer_lines.specs.Answers.{Answer, USAGE, missing_line, error_answer, output_answer, refused_answer}
 use Rattle.answer_lines.specs.Outcome.{after_line}
-use Rattle.check_driver.specs.CheckText.{all_methods_proved, check_text, summary_text}
+use Rattle.assembly_reports.specs.CheckText.{all_methods_proved, check_text, summary_text}
 use Rattle.assembly_answers.specs.Answers.{il_answer, list_answer, refute_file_answer, run_file_answer}
 use Rattle.assembly_answers.specs.FaultText.{unit_fault_text, assembly_fault_text}
 use Rattle.check_driver.specs.CacheMet.{CallMet, cache_entries, cache_refusal, command_cache}
 use Rattle.check_driver.specs.LinkedReports.{linked_answer}
 use Rattle.check_driver.specs.Met.{first_missing, contents}
 use Rattle.check_driver.specs.ProofText.{proof_fault_at, proof_fault_text}
-use Rattle.check_driver.specs.ReportText.{unit_report, unit_verdicts}
+use Rattle.assembly_reports.specs.ReportText.{unit_report, unit_verdicts}
 use Rattle.command_words.specs.Words.{args_told, check_files, command_of, file_indexes, linked_files, word_at, words_at}
 use Rattle.command_words.specs.declared.check_words.CheckWords.{CheckWords}
 use Rattle.command_words.specs.declared.command.Command.{Command}
@@ -45,19 +45,21 @@ unit_file_answer name bytes =
 
 -- The answer to a check whose first assembly has this name and these bytes, which have this first fault or none; the
 -- last is the answer for the assemblies after it. One that is refused ends the answer.
-abbrev pub checked_before : List ℕ → Manner → List ℕ → Option AsmFault → Answer → Answer
-checked_before name manner bytes (Some fault) others = refused_answer name (assembly_fault_text fault.cause) fault.at
-checked_before name manner bytes None others = record {
-  out = check_text name manner bytes ++ others.out;
+abbrev pub checked_before : Bool → List ℕ → Manner → List ℕ → Option AsmFault → Answer → Answer
+checked_before infer name manner bytes (Some fault) others =
+    refused_answer name (assembly_fault_text fault.cause) fault.at
+checked_before infer name manner bytes None others = record {
+  out = check_text infer name manner bytes ++ others.out;
   err = others.err;
-  status = max (if all_methods_proved manner.pick bytes then 0 else 1) others.status;
+  status = max (if all_methods_proved infer manner.pick bytes then 0 else 1) others.status;
 }
 
--- The answer to `check FILE..` for the names of the files and their bytes, where the reports are made in this manner.
-abbrev pub check_answer : Manner → List (List ℕ) → List (List ℕ) → Answer
-check_answer manner (name ∷ names) (bytes ∷ files) =
-    checked_before name manner bytes (FirstBroken bytes) (check_answer manner names files)
-check_answer manner _ _ = output_answer 0 []
+-- The answer to `check FILE..` for the names of the files and their bytes, where the reports are made in this manner,
+-- of the methods as they are written or with what is inferred of them.
+abbrev pub check_answer : Bool → Manner → List (List ℕ) → List (List ℕ) → Answer
+check_answer infer manner (name ∷ names) (bytes ∷ files) =
+    checked_before infer name manner bytes (FirstBroken bytes) (check_answer infer manner names files)
+check_answer infer manner _ _ = output_answer 0 []
 
 -- The manner in which a check makes its reports, by what is met under the name of its cache.
 abbrev pub check_manner : CheckWords → Option (List ℕ) → Manner
@@ -67,10 +69,10 @@ check_manner check cache = manner_under (is_some check.show) (OfCache (cache_ent
 abbrev pub unread_proof : Answer
 unread_proof = error_answer 7 []
 
--- The report of an assembly of this name and with these bytes, made in this manner, and its status.
+-- The report of an assembly of this name and with these bytes, of its methods as they are written, and its status.
 abbrev pub assembly_answer : Manner → List ℕ → List ℕ → Answer
 assembly_answer manner name bytes =
-    output_answer (if all_methods_proved manner.pick bytes then 0 else 1) (check_text name manner bytes)
+    output_answer (if all_methods_proved false manner.pick bytes then 0 else 1) (check_text false name manner bytes)
 
 -- The answer to `verify FILE F` for the name of F and what was read of it, where the assembly has this name and these
 -- bytes, and is accepted: its report, in which each unit is judged under its entry, and no invariant is shown.
@@ -86,7 +88,7 @@ verify_answer name by read bytes None = answer_by name bytes by read
 
 -- The answer to `gen SEED COUNT` for the bytes of the file that is generated: the summary alone.
 abbrev pub gen_answer : List ℕ → Answer
-gen_answer bytes = output_answer (if all_methods_proved limit_pick bytes then 0 else 1) (summary_text limit_pick bytes)
+gen_answer bytes = output_answer (if all_methods_proved false limit_pick bytes then 0 else 1) (summary_text limit_pick bytes)
 
 -- ---- commands
 
@@ -94,8 +96,8 @@ gen_answer bytes = output_answer (if all_methods_proved limit_pick bytes then 0 
 abbrev pub file_at : List (List ℕ) → ℕ → List ℕ
 file_at files index = slice_index_or files index []
 
--- The answer to a command of these words for what is met under the name of its cache, for what is read of its proof file,
--- and for the bytes of its files, in order.
+-- The answer to a command of these words for what is met under the name of its cache, for what is read of its proof
+-- file, and for the bytes of its files, in order.
 abbrev pub bytes_answer : Command → List (List ℕ) → Option (List ℕ) → Option ProofRead → List (List ℕ) → Answer
 bytes_answer (commands.Unit file) words cache read files = unit_file_answer (word_at words file) (file_at files 0)
 bytes_answer (commands.List file) words cache read files =
@@ -104,7 +106,7 @@ bytes_answer (commands.Il file method) words cache read files =
     il_answer (word_at words file) (word_at words method) (file_at files 0) (FirstBroken (file_at files 0))
 bytes_answer (commands.Check check) words cache read files =
     after_line (cache_refusal (command_cache words (commands.Check check)) cache)
-    (check_answer (check_manner check cache) (words_at words (check_files check)) files)
+    (check_answer (is_some check.infer) (check_manner check cache) (words_at words (check_files check)) files)
 bytes_answer (commands.Linked linked) words cache read files =
     after_line (cache_refusal (command_cache words (commands.Linked linked)) cache)
     (linked_answer (check_manner linked.check cache) (words_at words (linked_files linked)) files)

@@ -1,5 +1,5 @@
 -- The files that a call leaves: a proof file, and a cache.
-use Rattle.std.specs.Prelude.{◌≡◌, ◌≢◌, ◌⊎◌, ℕ, Bool, List, [], ◌∷◌, ◌++◌, Option, Some, None, is_none, option_map, option_to_list, Result, IfOk, if◌then◌else◌}
+use Rattle.std.specs.Prelude.{◌≡◌, ◌≢◌, ◌⊎◌, ℕ, Bool, List, [], ◌∷◌, ◌++◌, Option, Some, None, is_none, is_some, option_map, option_to_list, Result, IfOk, if◌then◌else◌}
 use Rattle.std.specs.List.{list_all}
 use Rattle.asm_image.specs.Faults.{FirstBroken}
 use Rattle.cc_base.specs.Files.{Held, ToldReplaced}
@@ -15,7 +15,7 @@ use Rattle.command_words.specs.declared.command.Command.{Command}
 use Rattle.command_words.specs.declared.command.Command.TheVariants as commands
 use Rattle.unit_verdicts.specs.Asked.{distinct}
 use Rattle.unit_verdicts.specs.CacheFile.{cache_left}
-use Rattle.unit_verdicts.specs.Picks.{entries_in}
+use Rattle.unit_verdicts.specs.Picks.{entries_in, pick_of}
 use Rattle.unit_verdicts.specs.ProofLeft.{proof_left}
 use Rattle.unit_verdicts.specs.declared.source.Source.{Source}
 use Rattle.unit_verdicts.specs.declared.source.Source.TheVariants.{Cache as OfCache}
@@ -45,10 +45,10 @@ left_where accepted proof cache held keys = if accepted then left_files proof ca
 
 -- What a check of files with these bytes leaves, in this order: a proof file and a cache of the units that were judged,
 -- each once, with the invariants under which they were. Where a file is refused, nothing is left.
-abbrev pub check_left : List (List ℕ) → Command → Option (List ℕ) → List (List ℕ) → List LeftFile
-check_left words command cache files =
+abbrev pub check_left : Bool → List (List ℕ) → Command → Option (List ℕ) → List (List ℕ) → List LeftFile
+check_left infer words command cache files =
     left_where (are_accepted files) (command_proof words command) (command_cache words command)
-    (OfCache (cache_entries cache)) (distinct (check_keys files))
+    (OfCache (cache_entries cache)) (distinct (check_keys infer (pick_of (cache_entries cache)) files))
 
 -- The same of a check of linked files.
 abbrev pub linked_left : List (List ℕ) → Command → Option (List ℕ) → List (List ℕ) → List LeftFile
@@ -59,7 +59,7 @@ linked_left words command cache files =
 -- The same for a command, what is met under the name of its cache, and the bytes of its files, in order. No other
 -- command leaves a file.
 abbrev pub bytes_left : Command → List (List ℕ) → Option (List ℕ) → List (List ℕ) → List LeftFile
-bytes_left (commands.Check check) words cache files = check_left words (commands.Check check) cache files
+bytes_left (commands.Check check) words cache files = check_left (is_some check.infer) words (commands.Check check) cache files
 bytes_left (commands.Linked linked) words cache files = linked_left words (commands.Linked linked) cache files
 bytes_left (commands.Verify file proof) words cache files = []
 bytes_left (commands.Unit file) words cache files = []

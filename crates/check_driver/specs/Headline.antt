@@ -3,16 +3,20 @@ use Rattle.std.specs.Prelude.{◌≡◌, ℕ, List, ◌++◌, Option, Some, Cont
 use Rattle.asm_image.specs.Rows.{methods_of}
 use Rattle.asm_image.specs.declared.method_row.MethodRow.{MethodRow}
 use Rattle.cc_base.specs.Files.{Held}
+use Rattle.cil_model.specs.Runs.{Safe}
 use Rattle.cil_model.specs.declared.machine.World.{World}
 use Rattle.cil_model.specs.declared.unit.Unit.{Unit as MethodUnit}
 use Rattle.command_words.specs.Words.{checked_names}
+use Rattle.safe_worlds.specs.Strengthened.{RunAlike}
 use Rattle.safe_worlds.specs.Worlds.{FramesKeep, RunsGiveFreely}
 use Rattle.unit_builder.specs.Outcomes.{outcome_of}
 use Rattle.unit_builder.specs.Reach.{Reaches}
 use Rattle.unit_builder.specs.Walks.{calls_of}
 use Rattle.unit_builder.specs.WorldOf.{world_of}
 use Rattle.unit_builder.specs.declared.entry.Outcome.TheVariants.{Analysed}
-use Rattle.check_driver.specs.Sections.{HasProvedLine}
+use Rattle.unit_verdicts.specs.Picks.{Pick}
+use Rattle.assembly_reports.specs.InferredUnits.{inferred_world}
+use Rattle.assembly_reports.specs.Sections.{HasProvedLine}
 
 -- The words ask for the reports of assemblies, and the file of the k-th of them, counted from 0, is held with these
 -- bytes.
@@ -44,3 +48,10 @@ pub record BeginsItsWorld (bytes : List ℕ) (method : MethodRow) : Type 0 where
 pub record RunsKeepArrays (w : World) : Type 0 where
   pub frames : FramesKeep w
   pub results : RunsGiveFreely w
+
+-- With what is inferred, under this pick, of each method that it reaches, the world of the method of a token is safe.
+-- Until a fault that world has the runs of the world as it is written, and so that one is safe.
+pub record IsSafeInferred (pick : Pick) (bytes : List ℕ) (token : ℕ) : Type 0 where
+  pub stronger : Safe (inferred_world pick bytes token) 0
+  pub alike : RunAlike (world_of bytes token) (inferred_world pick bytes token)
+  pub written : Safe (world_of bytes token) 0

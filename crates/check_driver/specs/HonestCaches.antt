@@ -19,6 +19,7 @@ pub record AsksWithoutCache (words other : List (List ℕ)) : Type 0 where
   pub without : command_of other ≡ Some (commands.Check plain)
   pub none : plain.cache ≡ None
   pub shows : is_some plain.show ≡ is_some check.show
+  pub infers : is_some plain.infer ≡ is_some check.infer
   pub files : words_at other (check_files plain) ≡ words_at words (check_files check)
 
 -- The entries that a call uses of what is held under the name of its cache are honest. Of a cache that is missing or
@@ -46,8 +47,8 @@ abbrev pub KeepsHonest : List ℕ → Option Held → Option Held → Type 0
 KeepsHonest name old new =
     (held after : Held) → old ≡ Some held → new ≡ Some after → (after name ≡ held name) ⊎ HoldsHonest (after name)
 
--- So they have under the name of a cache, if there is one, where these entries of it are honest and the proof file that is
--- left has another name.
+-- So they have under the name of a cache, if there is one, where these entries of it are honest and the proof file that
+-- is left has another name.
 abbrev pub HonestWhereHonest : Option (List ℕ) → Option (List ℕ) → List Entry → Option Held → Option Held → Type 0
 HonestWhereHonest None proof entries old new = Unit {0}
 HonestWhereHonest (Some name) proof entries old new = AreHonest entries → proof ≢ Some name → KeepsHonest name old new

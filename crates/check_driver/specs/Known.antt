@@ -1,13 +1,13 @@
 -- What a check knows of its assemblies and of the proof file that it leaves, once it has answered.
-use Rattle.std.specs.Prelude.{◌≡◌, ◌≢◌, ◌≤◌, ℕ, List, [], ◌∷◌, IfSome, Option, Some, None, Result, IfOk}
+use Rattle.std.specs.Prelude.{◌≢◌, ◌≤◌, ℕ, List, [], ◌∷◌, IfSome, Option, Some, None, is_some, Result, IfOk}
 use Rattle.std.specs.List.{AllByRecursion}
 use Rattle.asm_image.specs.Faults.{FirstBroken}
 use Rattle.asm_image.specs.declared.fault.AsmFault.{AsmFault}
 use Rattle.answer_lines.specs.declared.interrupt.Interrupt.{Interrupt}
 use Rattle.check_driver.specs.Asked.{check_keys}
 use Rattle.check_driver.specs.CacheMet.{CallMet, cache_entries}
-use Rattle.check_driver.specs.Checked.{AreRunnable}
-use Rattle.check_driver.specs.LinkedReports.{CanRun, RefusedFile, first_refused}
+use Rattle.assembly_reports.specs.Reportable.{AreRunnable, CanRun}
+use Rattle.check_driver.specs.LinkedReports.{RefusedFile, first_refused}
 use Rattle.check_driver.specs.Met.{contents, first_missing}
 use Rattle.command_words.specs.Words.{command_of, file_indexes, words_at}
 use Rattle.command_words.specs.declared.check_words.CheckWords.{CheckWords}
@@ -15,6 +15,7 @@ use Rattle.command_words.specs.declared.command.Command.{Command}
 use Rattle.command_words.specs.declared.command.Command.TheVariants as commands
 use Rattle.unit_builder.specs.Linked.{linked_entries}
 use Rattle.unit_verdicts.specs.Asked.{distinct}
+use Rattle.unit_verdicts.specs.Picks.{pick_of}
 use Rattle.unit_verdicts.specs.ProofLeft.{IsProofLeft}
 use Rattle.unit_verdicts.specs.declared.source.Source.TheVariants.{Cache as OfCache}
 
@@ -29,11 +30,12 @@ abbrev pub AreAllRunnable : List (List ℕ) → Type 0
 AreAllRunnable [] = Unit {0}
 AreAllRunnable (bytes ∷ files) = RunnableBefore bytes (FirstBroken bytes) (AreAllRunnable files)
 
--- What is known of a check that ended with this status, by what was met under the name of its cache, and by the bytes of
--- its files.
+-- What is known of a check that ended with this status, by what was met under the name of its cache, and by the bytes
+-- of its files.
 pub record KnowsCheck (check : CheckWords) (cache : Option (List ℕ)) (files : List (List ℕ)) (status : ℕ) : Type 0 where
   pub runnable : AreAllRunnable files
-  pub left : status ≤ 1 → IfSome check.proof (λ _. IsProofLeft (OfCache (cache_entries cache)) (distinct (check_keys files)))
+  pub left : status ≤ 1 → IfSome check.proof (λ _. IsProofLeft (OfCache (cache_entries cache))
+      (distinct (check_keys (is_some check.infer) (pick_of (cache_entries cache)) files)))
 
 -- Where one of linked files is refused, or where none is.
 abbrev pub RunnableUnless : Option RefusedFile → Type 0 → Type 0

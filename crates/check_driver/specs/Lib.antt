@@ -4,9 +4,6 @@ pub mod ProofText
 pub mod ProofMet
 pub mod CacheMet
 pub mod CallRead
-pub mod ReportText
-pub mod CheckText
-pub mod Findings
 pub mod LinkedReports
 pub mod LinkedReading
 pub mod Expected
@@ -17,7 +14,6 @@ pub mod HonestCaches
 pub mod Confirmed
 pub mod Checked
 pub mod Known
-pub mod Sections
 pub mod Headline
 pub mod LinkedHeadline
 pub mod ProvedUnit

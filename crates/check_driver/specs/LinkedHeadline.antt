@@ -1,5 +1,5 @@
 -- What the printed reports of linked assemblies mean.
-use Rattle.std.specs.Prelude.{◌≡◌, ◌≢◌, ℕ, List, Option, Some, None, is_some, map, Contains, slice_get}
+use Rattle.std.specs.Prelude.{◌≡◌, ℕ, List, Option, Some, None, is_some, map, Contains, slice_get}
 use Rattle.asm_image.specs.Rows.{methods_of}
 use Rattle.asm_image.specs.declared.method_row.MethodRow.{MethodRow}
 use Rattle.cc_base.specs.Files.{Held}
@@ -16,7 +16,7 @@ use Rattle.unit_builder.specs.declared.entry.Outcome.TheVariants.{Analysed}
 use Rattle.unit_verdicts.specs.Picks.{Manner}
 use Rattle.check_driver.specs.LinkedReports.{LinkedBegun}
 use Rattle.check_driver.specs.NothingOr.{NothingOr}
-use Rattle.check_driver.specs.Sections.{HasProvedLine, section}
+use Rattle.assembly_reports.specs.Sections.{HasProvedLine, section}
 
 -- The words ask to check linked assemblies, whose files are held with these bytes, in order.
 pub record AreLinkedOf (words : List (List ℕ)) (held : Held) (files : List (List ℕ)) : Type 0 where

@@ -6,11 +6,10 @@ use Rattle.asm_image.specs.Faults.{FirstBroken}
 use Rattle.asm_image.specs.declared.fault.AsmFault.{AsmFault}
 use Rattle.assembly_answers.specs.FaultText.{assembly_fault_text}
 use Rattle.cc_base.specs.Sink.{AppendsFront}
-use Rattle.check_driver.specs.CheckText.{findings, is_proved, report_text}
-use Rattle.method_unit.specs.Units.{IsUnit}
-use Rattle.unit_builder.specs.FileSets.{FileSet, files_in}
+use Rattle.assembly_reports.specs.CheckText.{are_proved, report_text}
+use Rattle.assembly_reports.specs.Reportable.{CanRun, entries_at}
+use Rattle.unit_builder.specs.FileSets.{FileSet}
 use Rattle.unit_builder.specs.Linked.{linked_entries}
-use Rattle.unit_builder.specs.Outcomes.{IfAnalysed, entries_in}
 use Rattle.unit_builder.specs.declared.entry.MethodEntry.{MethodEntry}
 use Rattle.unit_verdicts.specs.Picks.{Manner, Pick}
 
@@ -26,10 +25,6 @@ file_report manner (name, entries) = report_text name manner entries
 -- The reports of these, one after another.
 abbrev pub file_reports : Manner → List ReportedFile → List ℕ
 file_reports manner files = flat_map (file_report manner) files
-
--- Each method of these entries is proved.
-abbrev pub are_proved : Pick → List MethodEntry → Bool
-are_proved pick entries = list_all is_proved (findings pick entries)
 
 -- Each method of these files is proved.
 abbrev pub are_all_proved : Pick → List ReportedFile → Bool
@@ -65,11 +60,7 @@ linked_answer manner names files =
 
 -- ---- the files, as the code comes to them
 
--- An entry for each method of the file of a list index.
-abbrev pub entries_at : FileSet → ℕ → List MethodEntry
-entries_at files file = entries_in (files_in files) file
-
--- The same of so many files from one on.
+-- An entry for each method of so many files, from one on.
 abbrev pub entries_from : FileSet → ℕ → ℕ → List (List MethodEntry)
 entries_from files first count = map (entries_at files) (range_with_len first count)
 
@@ -78,10 +69,6 @@ abbrev pub reported_from : FileSet → ℕ → List (List ℕ) → List Reported
 reported_from files first names = zip names (entries_from files first (length names))
 
 -- ---- what the code knows of the files once it has begun the reports
-
--- The units of methods can be run.
-abbrev pub CanRun : List MethodEntry → Type 0
-CanRun entries = AllByRecursion (λ entry. IfAnalysed entry.outcome IsUnit) entries
 
 -- The reports of so many of these files were begun: what was appended to a sink is a front of these, one after another,
 -- and the units of each can be run.

@@ -11,7 +11,7 @@ use Rattle.command_words.specs.declared.command.Command.{Command}
 use Rattle.command_words.specs.declared.command.Command.TheVariants as commands
 use Rattle.invariant_checker.specs.Safety.{IsSafe}
 use Rattle.check_driver.specs.Headline.{WasAppended}
-use Rattle.check_driver.specs.Sections.{lines_of}
+use Rattle.assembly_reports.specs.Sections.{lines_of}
 
 -- The words ask for the report of a unit's file, and these are the bytes held.
 pub record AsksForUnit (words : List (List ℕ)) (held : Held) (bytes : List ℕ) : Type 0 where

@@ -2,16 +2,18 @@
 
 #![tactic(auto, using(cc_base::proofs::SinkLemmas::sinks, cc_base::proofs::CountLemmas::counts, answer_lines::proofs::LineLemmas::puts_none))]
 
-ghost use Rattle.std.specs.Prelude.{◌≡◌, ◌<◌, ◌||◌, All, IfOk, IfSome, None, OnOk, Some, [], if◌then◌else◌, is_some, length, zip};
+ghost use Rattle.std.specs.Prelude.{◌≡◌, ◌<◌, ◌||◌, All, IfOk, IfSome, None, OnOk, Some, [], if◌then◌else◌, is_some, length, true, zip};
 ghost use Rattle.std.specs.List.{AllByRecursion};
 ghost use Rattle.cc_base.specs.Counts.{Rose};
 ghost use Rattle.answer_lines.specs.Outcome.{Gives};
 ghost use Rattle.answer_lines.specs.Writing.{Writes, change_of};
-ghost use Rattle.check_driver.specs.Asked.{asked_for, begun_units, bytes_asked, check_keys, judged_keys, with_judged};
+ghost use Rattle.check_driver.specs.Asked.{begun_units, bytes_asked, check_keys};
+ghost use Rattle.assembly_reports.specs.JudgedUnits.{asked_for, report_keys, with_judged};
 ghost use Rattle.check_driver.specs.CacheMet.{cache_entries, cache_refusal, command_cache, command_proof};
 ghost use Rattle.check_driver.specs.CallRead.{IsCalled, cache_of, files_of, names_of};
-ghost use Rattle.check_driver.specs.CheckText.{all_methods_proved, check_text};
-ghost use Rattle.check_driver.specs.Checked.{AreBegun, IsReportable};
+ghost use Rattle.assembly_reports.specs.CheckText.{all_methods_proved, check_text};
+ghost use Rattle.check_driver.specs.Checked.{AreBegun};
+ghost use Rattle.assembly_reports.specs.Reportable.{IsReportable};
 ghost use Rattle.check_driver.specs.Expected.{bytes_answer, check_answer, check_manner};
 ghost use Rattle.check_driver.specs.FilesLeft.{AnswerLeaves, GivesOrUnreplaced, IfEither, bytes_left};
 ghost use Rattle.check_driver.specs.HonestCaches.{HonestWhereHonest};
@@ -20,18 +22,17 @@ ghost use Rattle.check_driver.specs.NothingOr.{NothingOr};
 ghost use Rattle.command_words.specs.Words.{words_bytes};
 ghost use Rattle.command_words.specs.declared.command.Command.TheVariants as commands;
 ghost use Rattle.result_cache.specs.Entries.{AreShort};
-ghost use Rattle.unit_builder.specs.Outcomes.{entries_of};
 ghost use Rattle.unit_verdicts.specs.Asked.{Asks};
 ghost use Rattle.unit_verdicts.specs.Picks.{pick_from};
 ghost use Rattle.unit_verdicts.specs.VerdictCache.{manner_of};
 
-use crate::check_report::report_lines;
 use crate::inputs::CallFiles;
 use crate::left_files::leave_files;
 use crate::open_cache::open_cache;
 use answer_lines::{Interrupt, answer_refused, put_lines};
 use asm_image::{AsmRefusal, Assembly};
 use assembly_answers::assembly_fault_text;
+use assembly_reports::report_lines;
 use cc_base::{Files, Sink};
 use command_words::{CheckWords, word_at};
 use result_cache::Cache;
@@ -39,23 +40,27 @@ use std::alloc::Global;
 use unit_verdicts::VerdictCache;
 use widening_engine::Finder;
 
-/// Answers for an assembly: its report, and the status of that.
+/// Answers for an assembly: its report, of its methods as they are written or with what is inferred of them, and the
+/// status of that.
 pub fn answer_assembly<O: Sink, D: Finder>(
     alloc: Global,
     name: &[u8],
     assembly: &Assembly<'_>,
+    infer: bool,
     cache: &mut VerdictCache,
     out: &mut O,
     finder: &mut D,
 ) -> Result<u8, Interrupt>
-    ensures status { IfOk result (λ status. status ≡ (if all_methods_proved (pick_from cache.old.held) assembly.now then 0 else 1)) }
-    ensures written { Writes result (change_of O.written O.puts O.faults out.old out.new) (check_text name.now (manner_of cache.old) assembly.now) }
+    requires keeps { infer ≡ true → cache.old.keeps ≡ true }
+    ensures status { IfOk result (λ status. status ≡ (if all_methods_proved infer (pick_from cache.old.held) assembly.now then 0 else 1)) }
+    ensures written { Writes result (change_of O.written O.puts O.faults out.old out.new) (check_text infer name.now (manner_of cache.old) assembly.now) }
     ensures known { IfOk result (λ _. IsReportable assembly.now) }
     ensures reportable { NothingOr (O.written out.old) (O.written out.new) (IsReportable assembly.now) }
-    ensures cache { OnOk result (cache.new ≡ with_judged cache.old (judged_keys (entries_of assembly.now))) }
-    ensures asked { Asks (asked_for cache.old (judged_keys (entries_of assembly.now))) result (D.asked finder.old) (D.asked finder.new) }
+    ensures cache { OnOk result (cache.new ≡ with_judged cache.old (report_keys infer (pick_from cache.old.held) assembly.now)) }
+    ensures asked { Asks (asked_for cache.old (report_keys infer (pick_from cache.old.held) assembly.now)) result
+        (D.asked finder.old) (D.asked finder.new) }
 {
-    let report = report_lines(alloc, name, assembly, cache, finder)?;
+    let report = report_lines(alloc, name, assembly, infer, cache, finder)?;
     put_lines(alloc, out, &report.lines)?;
     Ok(report.status)
 }
@@ -65,6 +70,7 @@ pub fn answer_assembly<O: Sink, D: Finder>(
 fn answer_each<O: Sink, E: Sink, D: Finder>(
     alloc: Global,
     given: &CallFiles<'_>,
+    infer: bool,
     cache: &mut VerdictCache,
     out: &mut O,
     err: &mut E,
@@ -72,12 +78,13 @@ fn answer_each<O: Sink, E: Sink, D: Finder>(
 ) -> Result<u8, Interrupt>
     requires inside { AllByRecursion (λ index. index < length given.now.words.now) given.now.indexes.now }
     requires each { length given.now.read.now ≡ length given.now.indexes.now }
-    ensures answer { Gives (check_answer (manner_of cache.old) (names_of given.now) (files_of given.now)) result
+    requires keeps { infer ≡ true → cache.old.keeps ≡ true }
+    ensures answer { Gives (check_answer infer (manner_of cache.old) (names_of given.now) (files_of given.now)) result
         (change_of O.written O.puts O.faults out.old out.new) (change_of E.written E.puts E.faults err.old err.new) }
-    ensures begun { AreBegun (manner_of cache.old) (zip (names_of given.now) (files_of given.now))
+    ensures begun { AreBegun infer (manner_of cache.old) (zip (names_of given.now) (files_of given.now))
         (O.written out.old) (O.written out.new) }
-    ensures cache { OnOk result (cache.new ≡ with_judged cache.old (check_keys (files_of given.now))) }
-    ensures asked { Asks (asked_for cache.old (check_keys (files_of given.now))) result
+    ensures cache { OnOk result (cache.new ≡ with_judged cache.old (check_keys infer (pick_from cache.old.held) (files_of given.now))) }
+    ensures asked { Asks (asked_for cache.old (check_keys infer (pick_from cache.old.held) (files_of given.now))) result
         (D.asked finder.old) (D.asked finder.new) }
     ensures known { IfOk result (λ _. AreAllRunnable (files_of given.now)) }
 {
@@ -94,14 +101,14 @@ fn answer_each<O: Sink, E: Sink, D: Finder>(
             answer_refused(alloc, name, assembly_fault_text(fault.cause), fault.at, err)
         }
         Ok(assembly) => {
-            let status = answer_assembly(alloc, name, &assembly, cache, out, finder)?;
+            let status = answer_assembly(alloc, name, &assembly, infer, cache, out, finder)?;
             let later = CallFiles {
                 words: given.words,
                 indexes,
                 read,
                 cache: given.cache,
             };
-            let others = answer_each(alloc, &later, cache, out, err, finder)?;
+            let others = answer_each(alloc, &later, infer, cache, out, err, finder)?;
             Ok(status.max(others))
         }
     }
@@ -130,11 +137,12 @@ fn begin_cache<E: Sink>(
     }
 }
 
-/// Returns whether a check leaves a cache or a proof file.
-fn leaves_files(check: CheckWords) -> bool
-    ensures { result ≡ (is_some check.cache || is_some check.proof) }
+/// Returns whether a check keeps the invariants of units: to leave a cache or a proof file, or to infer Ensures of
+/// them.
+fn keeps_invariants(check: CheckWords) -> bool
+    ensures { result ≡ (is_some check.cache || (is_some check.proof || is_some check.infer)) }
 {
-    check.cache.is_some() || check.proof.is_some()
+    check.cache.is_some() || check.proof.is_some() || check.infers()
 }
 
 /// The verdicts of a check, of which there are none yet: over its cache, if it has one. One that is refused is told.
@@ -151,12 +159,13 @@ pub fn begin_check<E: Sink>(
         (cache_refusal (command_cache (words_bytes given.now.words.now) (commands.Check check)) (cache_of given.now)) }
 {
     let held = begin_cache(alloc, check, given, err)?;
-    Ok(VerdictCache::over(alloc, check.shows(), leaves_files(check), held))
+    Ok(VerdictCache::over(alloc, check.shows(), keeps_invariants(check), held))
 }
 
-/// Answers a check of these assemblies. The reports show the invariants where these are asked for. Where the check has
-/// a cache, units that it has are judged under what it holds for them. At last the proof file of the check is replaced,
-/// and then its cache, by the units of this call, unless a file was refused.
+/// Answers a check of these assemblies. The reports show the invariants where these are asked for, and are of methods
+/// with what is inferred of them where that is asked for. Where the check has a cache, units that it has are judged
+/// under what it holds for them. At last the proof file of the check is replaced, and then its cache, by the units of
+/// this call, unless a file was refused.
 ///
 /// Cost: the code of each method is read once, however many methods call it, and of equal units one is analysed, also
 /// among those of several files. What is found of a file is kept until its report is made, and the assemblies and the
@@ -176,7 +185,7 @@ pub fn answer_check<F: Files, O: Sink, E: Sink, D: Finder>(
         (IfEither (command_proof words (commands.Check check)) (command_cache words (commands.Check check))
         (Rose (F.faults files.old) (F.faults files.new))) result
         (change_of O.written O.puts O.faults out.old out.new) (change_of E.written E.puts E.faults err.old err.new) }
-    ensures begun { AreBegun (check_manner check (cache_of given.now)) (zip (names_of given.now) (files_of given.now))
+    ensures begun { AreBegun (is_some check.infer) (check_manner check (cache_of given.now)) (zip (names_of given.now) (files_of given.now))
         (O.written out.old) (O.written out.new) }
     ensures asked { Asks (bytes_asked (commands.Check check) (cache_of given.now) (files_of given.now)) result
         (D.asked finder.old) (D.asked finder.new) }
@@ -190,7 +199,7 @@ pub fn answer_check<F: Files, O: Sink, E: Sink, D: Finder>(
         (cache_entries (cache_of given.now)) (F.held files.old) (F.held files.new) }
 {
     let mut units = begin_check(alloc, check, given, err)?;
-    let status = answer_each(alloc, given, &mut units, out, err, finder)?;
+    let status = answer_each(alloc, given, check.infers(), &mut units, out, err, finder)?;
     leave_files(alloc, check, given.words, status, &units, files)?;
     Ok(status)
 }

@@ -2,18 +2,18 @@
 
 #![tactic(auto, using(cc_base::proofs::SinkLemmas::sinks, cc_base::proofs::CountLemmas::counts, answer_lines::proofs::LineLemmas::puts_none))]
 
-ghost use Rattle.std.specs.Prelude.{◌≡◌, ◌≤◌, IfOk, if◌then◌else◌};
-ghost use Rattle.check_driver.specs.Asked.{units_asked};
-ghost use Rattle.check_driver.specs.CheckText.{all_methods_proved, summary_text};
+ghost use Rattle.std.specs.Prelude.{◌≡◌, ◌≤◌, IfOk, false, if◌then◌else◌};
+ghost use Rattle.assembly_reports.specs.JudgedUnits.{units_asked};
+ghost use Rattle.assembly_reports.specs.CheckText.{all_methods_proved, summary_text};
 ghost use Rattle.answer_lines.specs.LineCounts.{line_count};
 ghost use Rattle.answer_lines.specs.Writing.{Writes, change_of};
 ghost use Rattle.unit_verdicts.specs.Asked.{Asks};
 ghost use Rattle.unit_verdicts.specs.Picks.{limit_pick};
 ghost use Rattle.written_assemblies.specs.GeneratedFiles.{generated_file};
 
-use crate::check_report::{count, find_alone, status_of};
 use answer_lines::{Interrupt, put_line, summary_line};
 use asm_image::Assembly;
+use assembly_reports::{count, find_alone, status_of};
 use cc_base::Sink;
 use std::alloc::{AllocError, Global};
 use widening_engine::Finder;
@@ -33,7 +33,7 @@ fn summarise<D: Finder>(
     assembly: &Assembly<'_>,
     finder: &mut D,
 ) -> Result<Summary, AllocError>
-    ensures status { IfOk result (λ summary. summary.status ≡ (if all_methods_proved limit_pick assembly.now then 0 else 1)) }
+    ensures status { IfOk result (λ summary. summary.status ≡ (if all_methods_proved false limit_pick assembly.now then 0 else 1)) }
     ensures line { IfOk result (λ summary. summary.line.items ≡ summary_text limit_pick assembly.now) }
     ensures one { IfOk result (λ summary. line_count summary.line.items ≡ 1) }
     ensures asked { Asks (units_asked assembly.now) result (D.asked finder.old) (D.asked finder.new) }
@@ -52,7 +52,7 @@ fn answer_generated<O: Sink, D: Finder>(
     out: &mut O,
     finder: &mut D,
 ) -> Result<u8, Interrupt>
-    ensures status { IfOk result (λ status. status ≡ (if all_methods_proved limit_pick assembly.now then 0 else 1)) }
+    ensures status { IfOk result (λ status. status ≡ (if all_methods_proved false limit_pick assembly.now then 0 else 1)) }
     ensures written { Writes result (change_of O.written O.puts O.faults out.old out.new) (summary_text limit_pick assembly.now) }
     ensures asked { Asks (units_asked assembly.now) result (D.asked finder.old) (D.asked finder.new) }
 {
@@ -73,7 +73,7 @@ pub fn answer_gen<O: Sink, D: Finder>(
     finder: &mut D,
 ) -> Result<u8, Interrupt>
     requires few { count ≤ 10000 }
-    ensures status { IfOk result (λ status. status ≡ (if all_methods_proved limit_pick (generated_file seed count) then 0 else 1)) }
+    ensures status { IfOk result (λ status. status ≡ (if all_methods_proved false limit_pick (generated_file seed count) then 0 else 1)) }
     ensures written { Writes result (change_of O.written O.puts O.faults out.old out.new) (summary_text limit_pick (generated_file seed count)) }
     ensures asked { Asks (units_asked (generated_file seed count)) result (D.asked finder.old) (D.asked finder.new) }
 {

@@ -3,8 +3,6 @@
 
 mod cache_file;
 mod check_answer;
-mod check_report;
-mod finding;
 mod gen_answer;
 mod inputs;
 mod left_files;
@@ -14,10 +12,9 @@ mod program;
 mod proof_fault;
 mod reading;
 mod unit_answer;
-mod unit_report;
 mod verify_answer;
 
 pub use answer_lines::NO_MEMORY;
-pub use check_report::report;
+pub use assembly_reports::report;
 pub use command_words::{CheckWords, Command, RunWords, parse_words};
 pub use program::run_words;

@@ -7,9 +7,10 @@ ghost use Rattle.std.specs.List.{AllByRecursion, flat_map};
 ghost use Rattle.answer_lines.specs.Outcome.{Gives};
 ghost use Rattle.answer_lines.specs.Writing.{Writes, change_of};
 ghost use Rattle.cc_base.specs.Counts.{Rose};
-ghost use Rattle.check_driver.specs.Asked.{asked_for, bytes_asked, judged_keys, linked_keys, with_judged};
+ghost use Rattle.check_driver.specs.Asked.{bytes_asked, linked_keys};
+ghost use Rattle.assembly_reports.specs.JudgedUnits.{asked_for, judged_keys, with_judged};
 ghost use Rattle.check_driver.specs.CacheMet.{cache_entries, command_cache, command_proof};
-ghost use Rattle.check_driver.specs.CheckText.{report_text};
+ghost use Rattle.assembly_reports.specs.CheckText.{report_text, are_proved};
 ghost use Rattle.check_driver.specs.CallRead.{IsCalled, cache_of, files_of, names_of};
 ghost use Rattle.check_driver.specs.Expected.{bytes_answer};
 ghost use Rattle.check_driver.specs.FilesLeft.{AnswerLeaves, GivesOrUnreplaced, IfEither, bytes_left};
@@ -17,7 +18,8 @@ ghost use Rattle.check_driver.specs.HonestCaches.{HonestWhereHonest};
 ghost use Rattle.check_driver.specs.Known.{AreLinkedRunnable};
 ghost use Rattle.check_driver.specs.LinkedHeadline.{SomeLinkedBegun};
 ghost use Rattle.check_driver.specs.LinkedReading.{ReadsAll, ReadsOne};
-ghost use Rattle.check_driver.specs.LinkedReports.{CanRun, LinkedBegun, ReportsBegun, are_all_proved, are_proved, entries_at, entries_from, file_reports, first_refused, linked_answer, reported_from};
+ghost use Rattle.check_driver.specs.LinkedReports.{LinkedBegun, ReportsBegun, are_all_proved, entries_from, file_reports, first_refused, linked_answer, reported_from};
+ghost use Rattle.assembly_reports.specs.Reportable.{CanRun, entries_at};
 ghost use Rattle.check_driver.specs.Met.{bytes_read};
 ghost use Rattle.check_driver.specs.NothingOr.{NothingOr};
 ghost use Rattle.command_words.specs.Words.{words_at, words_bytes};
@@ -29,13 +31,13 @@ ghost use Rattle.unit_verdicts.specs.Picks.{pick_from};
 ghost use Rattle.unit_verdicts.specs.VerdictCache.{manner_of};
 
 use crate::check_answer::begin_check;
-use crate::check_report::report_file;
 use crate::inputs::CallFiles;
 use crate::left_files::leave_files;
 use answer_lines::{Interrupt, answer_refused, put_lines};
 use asm_image::{AsmFault, AsmRefusal, Assembly};
 use asm_links::Links;
 use assembly_answers::assembly_fault_text;
+use assembly_reports::report_file;
 use cc_base::{Files, Sink};
 use command_words::{LinkedWords, word_at};
 use std::alloc::{AllocFailed, Global};
@@ -211,8 +213,8 @@ fn answer_all<O: Sink, E: Sink, D: Finder>(
     }
 }
 
-/// Answers a check of these assemblies, which are linked with each other: a call of one may mean a method of another. All
-/// else is as in a check without references.
+/// Answers a check of these assemblies, which are linked with each other: a call of one may mean a method of another.
+/// All else is as in a check without references.
 ///
 /// Cost: that of the same reports of each alone, and besides one pass over the methods of all files and one look-up for
 /// each call of another file's method. All assemblies are kept until the answer is given.

@@ -2,7 +2,7 @@
 
 #![tactic(auto, using(cc_base::proofs::SinkLemmas::sinks, cc_base::proofs::CountLemmas::counts, answer_lines::proofs::LineLemmas::puts_none))]
 
-ghost use Rattle.std.specs.Prelude.{◌≡◌, ◌≢◌, ◌⊎◌, ◌++◌, ◌<◌, ◌≤◌, All, Contains, List, ℕ, length, option_to_list, Option, Some, IfOk, IfSome, None, slice_get, zip};
+ghost use Rattle.std.specs.Prelude.{◌≡◌, ◌≢◌, ◌⊎◌, ◌++◌, ◌<◌, ◌≤◌, All, Contains, List, ℕ, false, length, option_to_list, Option, Some, IfOk, IfSome, None, slice_get, true, zip};
 ghost use Rattle.asm_image.specs.Faults.{FirstBroken};
 ghost use Rattle.asm_image.specs.Rows.{methods_of};
 ghost use Rattle.asm_image.specs.declared.method_row.MethodRow.{MethodRow};
@@ -15,13 +15,14 @@ ghost use Rattle.cil_model.specs.Runs.{Safe};
 ghost use Rattle.check_driver.specs.BytesAnswered.{AnswersBytes};
 ghost use Rattle.check_driver.specs.CacheMet.{CallMet, IsMet, cache_entries, command_cache, command_proof, met_of};
 ghost use Rattle.check_driver.specs.CallRead.{IsCalled, cache_of, files_of};
-ghost use Rattle.check_driver.specs.Checked.{AreBegun, AreHeldBegun, IfReports, IsSafeMethod};
-ghost use Rattle.check_driver.specs.Confirmed.{AsksToConfirm, plain_report};
+ghost use Rattle.check_driver.specs.Checked.{AreBegun, AreHeldBegun, IfReports, infers};
+ghost use Rattle.assembly_reports.specs.Reportable.{IsSafeMethod, IsSafeWithInferred};
+ghost use Rattle.check_driver.specs.Confirmed.{AsksToConfirm, plain_report, source_held};
 ghost use Rattle.assembly_answers.specs.Answers.{run_file_answer};
 ghost use Rattle.check_driver.specs.Expected.{expected, file_at, files_answer};
 ghost use Rattle.check_driver.specs.FilesLeft.{AnswerLeaves, IfEither, LeavesFiles, files_left, left_by};
 ghost use Rattle.answer_lines.specs.Outcome.{Gives, GivesOrFails, Leaves, last_line, status_of};
-ghost use Rattle.check_driver.specs.Headline.{BeginsItsWorld, IsAssemblyOf, RunsKeepArrays, TellAllProved, WasAppended};
+ghost use Rattle.check_driver.specs.Headline.{BeginsItsWorld, IsAssemblyOf, IsSafeInferred, RunsKeepArrays, TellAllProved, WasAppended};
 ghost use Rattle.check_driver.specs.HonestCaches.{AsksWithoutCache, HonestWhereHonest, IsCacheHonest, WritesAs};
 ghost use Rattle.check_driver.specs.Known.{AnswerKnows, Knows, WordsKnow};
 ghost use Rattle.check_driver.specs.LinkedHeadline.{AreLinkedBegun, AreLinkedOf, BeginsLinkedWorld, IfLinked, LinksWithoutCache, SomeLinkedBegun, TellLinkedProved};
@@ -29,7 +30,7 @@ ghost use Rattle.check_driver.specs.NothingOr.{NothingOr};
 ghost use Rattle.check_driver.specs.ProofMet.{IsProofMet};
 ghost use Rattle.check_driver.specs.ProvedUnit.{AreSpelled, AsksForUnit, IfUnit, IsHeldSpelled, PrintsProvedUnit, SpellSafeUnit};
 ghost use Rattle.check_driver.specs.Refuted.{AsksToRefute, PrintsRefuted};
-ghost use Rattle.check_driver.specs.Sections.{HasProvedLine, section};
+ghost use Rattle.assembly_reports.specs.Sections.{HasProvedLine, section};
 ghost use Rattle.command_words.specs.Words.{HasArguments, IfGen, IfRun, args_told, cache_name, checked_indexes, command_of, file_indexes, file_names, linked_files, proof_name, read_names, used_indexes, word_at, words_at, words_bytes};
 ghost use Rattle.answer_lines.specs.Writing.{change_of};
 ghost use Rattle.unit_builder.specs.Linked.{linked_world};
@@ -38,7 +39,7 @@ ghost use Rattle.unit_builder.specs.WorldOf.{world_of};
 ghost use Rattle.answer_lines.specs.Answers.{output_answer};
 ghost use Rattle.proof_files.specs.Reading.{ProofRead};
 ghost use Rattle.unit_verdicts.specs.Asked.{Asks};
-ghost use Rattle.unit_verdicts.specs.Picks.{Manner};
+ghost use Rattle.unit_verdicts.specs.Picks.{pick_from};
 
 use crate::check_answer::answer_check;
 use crate::gen_answer::answer_gen;
@@ -114,8 +115,8 @@ fn answer_bytes<F: Files, O: Sink, E: Sink, D: Finder>(
         (IfEither (command_proof words command) (command_cache words command) failed) result
         (change_of O.written O.puts O.faults out.old out.new) (change_of E.written E.puts E.faults err.old err.new)
         (F.held files.old) (F.held files.new) }
-    ensures begun { IfReports command ((manner : Manner)
-        × AreBegun manner (zip (words_at (words_bytes given.now.words.now) (checked_indexes command)) (files_of given.now))
+    ensures begun { IfReports command (cache_of given.now) (λ infer manner.
+        AreBegun infer manner (zip (words_at (words_bytes given.now.words.now) (checked_indexes command)) (files_of given.now))
         (O.written out.old) (O.written out.new)) }
     ensures linked { IfLinked command (λ linked. NothingOr (O.written out.old) (O.written out.new)
         (SomeLinkedBegun (words_at (words_bytes given.now.words.now) (linked_files linked)) (files_of given.now)
@@ -194,8 +195,7 @@ fn answer_command<F: Files, O: Sink, E: Sink, D: Finder>(
         × HonestWhereHonest cache (command_proof given command) (cache_entries met.cache) (F.held files.old) (F.held files.new) }
     ensures missing { IfOk result (λ status. status ≡ 3 → Rose (F.missed files.old) (F.missed files.new)) }
     ensures memory { IfOk result (λ status. status ≢ 7) }
-    ensures begun { IfReports command
-        (AreHeldBegun (F.held files.old) (words_at (words_bytes words.now) (checked_indexes command)) (O.written out.old) (O.written out.new)) }
+    ensures begun { AreHeldBegun (F.held files.old) (words_bytes words.now) command (O.written out.old) (O.written out.new) }
     ensures linked { IfLinked command (λ linked.
         AreLinkedBegun (F.held files.old) (words_at (words_bytes words.now) (linked_files linked)) (O.written out.old) (O.written out.new)) }
     ensures spelled { NothingOr (O.written out.old) (O.written out.new)
@@ -241,8 +241,8 @@ fn answer_words<F: Files, O: Sink, E: Sink, D: Finder>(
     ensures memory { IfOk result (λ status. status ≢ 7) }
     ensures usage { command_of (words_bytes words.now) ≡ None → IfOk result (λ status. status ≡ 2) }
     ensures begun { let given = words_bytes words.now in
-        IfSome (command_of given) (λ command. IfReports command
-        (AreHeldBegun (F.held files.old) (words_at given (checked_indexes command)) (O.written out.old) (O.written out.new))) }
+        IfSome (command_of given) (λ command.
+        AreHeldBegun (F.held files.old) given command (O.written out.old) (O.written out.new)) }
     ensures linked { let given = words_bytes words.now in
         IfSome (command_of given) (λ command. IfLinked command (λ linked.
         AreLinkedBegun (F.held files.old) (words_at given (linked_files linked)) (O.written out.old) (O.written out.new))) }
@@ -287,8 +287,8 @@ fn finish<E: Sink>(alloc: Global, answered: Result<u8, Interrupt>, err: &mut E) 
 /// The program: answers the words, writes to the two sinks and gives the status. The finder is asked for an invariant
 /// of each unit that is judged, of equal units once, and of none that the cache has.
 ///
-/// Statuses 4, 6 and 7 end a call early: a device refused a read, a sink or a file that is to be left refused, memory ran
-/// out.
+/// Statuses 4, 6 and 7 end a call early: a device refused a read, a sink or a file that is to be left refused, memory
+/// ran out.
 pub fn run_words<F: Files, O: Sink, E: Sink, D: Finder>(
     alloc: Global,
     words: &[String],
@@ -329,8 +329,8 @@ pub fn run_words<F: Files, O: Sink, E: Sink, D: Finder>(
     ensures kept_honest { (held after : Held) → F.held files.old ≡ Some held → F.held files.new ≡ Some after
         → IsCacheHonest (cache_name (words_bytes words.now)) held
         → IsCacheHonest (cache_name (words_bytes words.now)) after }
-    // By the proof file that a check of one file has left, `verify` confirms it: it gives the report of that without the
-    // lines of invariants, and its status, unless memory runs out.
+    // By the proof file that a check of one file has left, `verify` confirms it: it gives the report of that without
+    // the lines of invariants, and its status, unless memory runs out.
     ensures confirmed { (held after : Held) (other : List (List ℕ)) (met : CallMet) → F.held files.old ≡ Some held
         → F.held files.new ≡ Some after → (asks : AsksToConfirm (words_bytes words.now) other held)
         → IsMet (Some after) (file_names other) None met → result ≤ 1 → (expected other met).status ≢ 7
@@ -349,9 +349,17 @@ pub fn run_words<F: Files, O: Sink, E: Sink, D: Finder>(
         → IsAssemblyOf (words_bytes words.now) held k bytes → WasAppended (O.written out.old) (O.written out.new) text
         → Contains (methods_of bytes) method → TellAllProved (section k text) bytes method
         → RunsKeepArrays (world_of bytes method.token.0) }
-    // Where the reports of linked files have told each method that one reaches by calls, also by those of other files, to be
-    // proved, each in the report of its own file, no run of that one in its world over the files, which begins with its own
-    // unit, is ever at a fault, whatever the status and however far the reports came.
+    // Where the report was made with what is inferred of each method, that holds because the method is safe with it:
+    // its world with what is inferred is safe, and has the same runs until a fault. It is inferred from what is held
+    // under the name of the cache, or else from what the finder answers.
+    ensures inferred { (held : Held) (k : ℕ) (bytes text : List ℕ) (method : MethodRow) → F.held files.old ≡ Some held
+        → IsAssemblyOf (words_bytes words.now) held k bytes → WasAppended (O.written out.old) (O.written out.new) text
+        → Contains (methods_of bytes) method → TellAllProved (section k text) bytes method
+        → infers (command_of (words_bytes words.now)) ≡ true
+        → IsSafeInferred (pick_from (source_held (words_bytes words.now) held)) bytes method.token.0 }
+    // Where the reports of linked files have told each method that one reaches by calls, also by those of other files,
+    // to be proved, each in the report of its own file, no run of that one in its world over the files, which begins
+    // with its own unit, is ever at a fault, whatever the status and however far the reports came.
     ensures linked { (held : Held) (all : List (List ℕ)) (k : ℕ) (bytes text : List ℕ) (method : MethodRow) → F.held files.old ≡ Some held
         → AreLinkedOf (words_bytes words.now) held all → WasAppended (O.written out.old) (O.written out.new) text
         → slice_get all k ≡ Some bytes → Contains (methods_of bytes) method → TellLinkedProved text all k method
@@ -370,10 +378,17 @@ pub fn run_words<F: Files, O: Sink, E: Sink, D: Finder>(
     ensures refuted { (held : Held) (bytes : List ℕ) (token : Token) → F.held files.old ≡ Some held
         → AsksToRefute (words_bytes words.now) held bytes token → PrintsRefuted (O.written out.old) (O.written out.new)
         → Safe (world_of bytes token.0) 0 → ⊥ }
-    // The unit of a method of an assembly that the assembly's report has told to be proved is safe.
+    // The unit of a method of an assembly that the assembly's report has told to be proved is safe: as it is written,
+    // or where the report was made with what is inferred, with that.
     ensures checked { (held : Held) (k : ℕ) (bytes text : List ℕ) (method : MethodRow) → F.held files.old ≡ Some held
         → IsAssemblyOf (words_bytes words.now) held k bytes → WasAppended (O.written out.old) (O.written out.new) text
-        → Contains (methods_of bytes) method → HasProvedLine (section k text) method → IsSafeMethod bytes method }
+        → Contains (methods_of bytes) method → HasProvedLine (section k text) method
+        → infers (command_of (words_bytes words.now)) ≡ false → IsSafeMethod bytes method }
+    ensures checked_inferred { (held : Held) (k : ℕ) (bytes text : List ℕ) (method : MethodRow) → F.held files.old ≡ Some held
+        → IsAssemblyOf (words_bytes words.now) held k bytes → WasAppended (O.written out.old) (O.written out.new) text
+        → Contains (methods_of bytes) method → HasProvedLine (section k text) method
+        → infers (command_of (words_bytes words.now)) ≡ true
+        → IsSafeWithInferred (pick_from (source_held (words_bytes words.now) held)) bytes method }
 
     // Each status that a device can bring comes only where its count rose in this call.
     ensures missing_cause { result ≡ 3 → Rose (F.missed files.old) (F.missed files.new) }

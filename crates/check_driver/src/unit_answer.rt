@@ -8,7 +8,7 @@ ghost use Rattle.check_driver.specs.Expected.{unit_answer, unit_file_answer};
 ghost use Rattle.check_driver.specs.NothingOr.{NothingOr};
 ghost use Rattle.check_driver.specs.ProvedUnit.{AreSpelled};
 ghost use Rattle.answer_lines.specs.Outcome.{Gives};
-ghost use Rattle.check_driver.specs.ReportText.{unit_report, unit_verdicts};
+ghost use Rattle.assembly_reports.specs.ReportText.{unit_report, unit_verdicts};
 ghost use Rattle.invariant_checker.specs.Counts.{all_proved};
 ghost use Rattle.answer_lines.specs.Writing.{Writes, change_of};
 ghost use Rattle.method_unit.specs.UnitFile.{first_unit_fault};
@@ -16,9 +16,9 @@ ghost use Rattle.method_unit.specs.Units.{IsUnit};
 ghost use Rattle.unit_form.specs.Spelling.{unit_bytes};
 ghost use Rattle.unit_verdicts.specs.Asked.{Asks};
 
-use crate::unit_report::report_lines;
 use answer_lines::{Interrupt, answer_refused, put_lines};
 use assembly_answers::unit_fault_text;
+use assembly_reports::unit_lines;
 use cc_base::{READ_LIMIT, Sink};
 use cil_model::MAX_FILE_BYTES;
 use invariant_checker::all_proved;
@@ -42,9 +42,10 @@ fn put_report<O: Sink, D: Finder>(
 {
     let code = find_flow(alloc, unit)?;
     let found = judge_flow(alloc, &code, false, finder)?;
-    let lines = report_lines(alloc, &code.unit, &found.verdicts)?;
+    let proved = all_proved(&found.verdicts);
+    let lines = unit_lines(alloc, code.unit, &found.verdicts)?;
     put_lines(alloc, out, &lines)?;
-    Ok(all_proved(&found.verdicts))
+    Ok(proved)
 }
 
 /// Answers `unit FILE` for the bytes of a file that is not too large.

@@ -2,7 +2,7 @@
 
 #![tactic(auto, using(cc_base::proofs::SinkLemmas::sinks, cc_base::proofs::CountLemmas::counts, answer_lines::proofs::LineLemmas::puts_none))]
 
-ghost use Rattle.std.specs.Prelude.{◌≡◌, ◌≢◌, [], ◌∷◌, IfOk, None, Option};
+ghost use Rattle.std.specs.Prelude.{◌≡◌, ◌≢◌, [], ◌∷◌, IfOk, None, Option, false};
 ghost use Rattle.answer_lines.specs.Outcome.{Gives};
 ghost use Rattle.answer_lines.specs.Writing.{change_of};
 ghost use Rattle.asm_image.specs.Faults.{FirstBroken};
@@ -37,7 +37,7 @@ fn answer_by<O: Sink, E: Sink, D: Finder>(
     ensures answer { (read : Option ProofRead) × IsReadOf proof.now read
         × Gives (answer_by name.now assembly.now by.now read) result
         (change_of O.written O.puts O.faults out.old out.new) (change_of E.written E.puts E.faults err.old err.new) }
-    ensures begun { (manner : Manner) × AreBegun manner ((name.now, assembly.now) ∷ []) (O.written out.old) (O.written out.new) }
+    ensures begun { (manner : Manner) × AreBegun false manner ((name.now, assembly.now) ∷ []) (O.written out.old) (O.written out.new) }
     ensures memory { IfOk result (λ status. status ≢ 7) }
     ensures asked { D.asked finder.new ≡ D.asked finder.old }
 {
@@ -49,14 +49,14 @@ fn answer_by<O: Sink, E: Sink, D: Finder>(
         }
         Ok(entries) => {
             let mut units = VerdictCache::of_proof(alloc, entries)?;
-            answer_assembly(alloc, name, assembly, &mut units, out, finder)
+            answer_assembly(alloc, name, assembly, false, &mut units, out, finder)
         }
     }
 }
 
-/// Answers `verify FILE F` for the bytes of both, of each at most `READ_LIMIT`: the report of the assembly, in which each
-/// unit is judged under the states of its entry in the proof file, or where it has none under those of no blocks. No
-/// invariant is shown, and none is asked for. An assembly that is refused is told before the proof file is read.
+/// Answers `verify FILE F` for the bytes of both, of each at most `READ_LIMIT`: the report of the assembly, in which
+/// each unit is judged under the states of its entry in the proof file, or where it has none under those of no blocks.
+/// No invariant is shown, and none is asked for. An assembly that is refused is told before the proof file is read.
 ///
 /// Cost: the proof file is read in one pass, and its entries are kept until the answer is given. The report takes what
 /// that of `check` takes without the finder.
@@ -73,7 +73,7 @@ pub fn answer_verify<O: Sink, E: Sink, D: Finder>(
     ensures answer { (read : Option ProofRead) × IsReadOf proof.now read
         × Gives (verify_answer name.now by.now read bytes.now (FirstBroken bytes.now)) result
         (change_of O.written O.puts O.faults out.old out.new) (change_of E.written E.puts E.faults err.old err.new) }
-    ensures begun { (manner : Manner) × AreBegun manner ((name.now, bytes.now) ∷ []) (O.written out.old) (O.written out.new) }
+    ensures begun { (manner : Manner) × AreBegun false manner ((name.now, bytes.now) ∷ []) (O.written out.old) (O.written out.new) }
     ensures memory { IfOk result (λ status. status ≢ 7) }
     ensures asked { D.asked finder.new ≡ D.asked finder.old }
 {

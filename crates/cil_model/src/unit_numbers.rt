@@ -86,7 +86,8 @@ pub fn is_assert(number: u32) -> bool
     matches!(unit_call(number), Some(UnitCall::Assert(false)))
 }
 
-/// The type of the arrays that a `newarr` of this number makes, and that a `ldelema` of it takes: `bool[]` or `int32[]`.
+/// The type of the arrays that a `newarr` of this number makes, and that a `ldelema` of it takes: `bool[]` or
+/// `int32[]`.
 pub fn array_place(number: u32) -> Option<Place>
     ensures { result ≡ array_place number }
 {

@@ -74,6 +74,10 @@ command_of_three word first second =
 abbrev pub is_show : List ℕ → Bool
 is_show word = bytes_eq word (codes "--show")
 
+-- The word that asks for the Ensures that the returns of methods show.
+abbrev pub is_infer : List ℕ → Bool
+is_infer word = bytes_eq word (codes "--infer")
+
 -- The word after which a cache is named.
 abbrev pub is_cache : List ℕ → Bool
 is_cache word = bytes_eq word (codes "--cache")
@@ -88,7 +92,7 @@ is_ref word = bytes_eq word (codes "--ref")
 
 -- A word that may stand after `check`.
 abbrev pub is_check_word : List ℕ → Bool
-is_check_word word = is_show word || (is_cache word || (is_proof word || (is_ref word || is_name_word word)))
+is_check_word word = is_show word || (is_infer word || (is_cache word || (is_proof word || (is_ref word || is_name_word word))))
 
 -- Where a name stands among these words: after the first that is such an option.
 abbrev pub name_place : (List ℕ → Bool) → List (List ℕ) → Option ℕ
@@ -119,45 +123,52 @@ MAX_FILES = 64
 abbrev pub MAX_REFS : ℕ
 MAX_REFS = 16
 
--- How many of these words name files of a check that are no references: all but `--show`, `--cache`, `--proof` and `--ref`,
--- and the names after these three.
+-- How many of these words name files of a check that are no references: all but `--show` and `--infer`, but `--cache`,
+-- `--proof` and `--ref`, and but the names after these three.
 abbrev pub file_count : List (List ℕ) → ℕ
 file_count words =
-    length words - (count_by is_show words + 2 * (count_by is_cache words + (count_by is_proof words + count_by is_ref words)))
+    length words
+    - (count_by is_show words + (count_by is_infer words + 2 * (count_by is_cache words + (count_by is_proof words + count_by is_ref words))))
 
--- At most one `--show`, at most one `--cache`, at most one `--proof`, at most 16 references, and 1 to 64 other files.
+-- At most one `--show`, one `--infer`, one `--cache` and one `--proof`, at most 16 references, and 1 to 64 other files.
 abbrev pub are_few : List (List ℕ) → Bool
 are_few words =
-    nat_le (count_by is_show words) 1 && nat_le (count_by is_cache words) 1 && nat_le (count_by is_proof words) 1
+    nat_le (count_by is_show words) 1 && nat_le (count_by is_infer words) 1 && nat_le (count_by is_cache words) 1 && nat_le (count_by is_proof words) 1
     && nat_le (count_by is_ref words) MAX_REFS && nat_le 1 (file_count words) && nat_le (file_count words) MAX_FILES
 
--- Words are those of a check where each may stand there, none of a kind stands there too often, each reference is named,
--- and the cache and the proof file have names of their own.
+-- Where `--infer` is among these words, neither `--proof` nor `--ref` is.
+abbrev pub infers_alone : List (List ℕ) → Bool
+infers_alone words = count_by is_infer words == 0 || (count_by is_proof words == 0 && count_by is_ref words == 0)
+
+-- Words are those of a check where each may stand there, none of a kind stands there too often, none beside `--infer`
+-- that may not, each reference is named, and the cache and the proof file have names of their own.
 abbrev pub are_check_words : List (List ℕ) → Bool
 are_check_words words =
-    list_all is_check_word words && are_few words && are_refs_named words && is_own_name words (cache_place words) && is_own_name words (proof_place words)
+    list_all is_check_word words && are_few words && infers_alone words && are_refs_named words
+    && is_own_name words (cache_place words) && is_own_name words (proof_place words)
 
 -- The index, among all words of a check, of the word at this place after `check`.
 abbrev pub word_index : Option ℕ → Option ℕ
 word_index place = option_map (λ place. place + 1) place
 
--- How many words a check has, and which of them are `--show` and the names of the cache and of the proof file, for the
--- words after `check`. Its references are told apart.
+-- How many words a check has, and which of them are `--show`, `--infer` and the names of the cache and of the proof
+-- file, for the words after `check`. Its references are told apart.
 unfoldable pub check_words : List (List ℕ) → Option CheckWords
 check_words words =
     if are_check_words words
     then Some (record {
       count = length words + 1;
       show = word_index (position is_show words);
+      infer = word_index (position is_infer words);
       cache = word_index (cache_place words);
       proof = word_index (proof_place words);
     })
     else None
 
--- The word at an index is `--show`.
-abbrev pub tells_show : Option ℕ → ℕ → Bool
-tells_show None index = false
-tells_show (Some show) index = index == show
+-- The word at an index is the option at another: `--show` or `--infer`.
+abbrev pub tells_option : Option ℕ → ℕ → Bool
+tells_option None index = false
+tells_option (Some option) index = index == option
 
 -- The word at an index is the name at another, or the option before that.
 abbrev pub tells_name : Option ℕ → ℕ → Bool
@@ -166,7 +177,8 @@ tells_name (Some name) index = index == name || index == name - 1
 
 -- The word at an index names a file of a check, unless it is `check` or tells something else.
 abbrev pub names_file : CheckWords → ℕ → Bool
-names_file check index = not (tells_show check.show index) && not (tells_name check.cache index) && not (tells_name check.proof index)
+names_file check index =
+    not (tells_option check.show index) && not (tells_option check.infer index) && not (tells_name check.cache index) && not (tells_name check.proof index)
 
 -- The indexes of the words that name the files of a check without references, in order.
 abbrev pub check_files : CheckWords → List ℕ

@@ -1,22 +1,24 @@
 //! The words of a check.
 
-ghost use Rattle.std.specs.Prelude.{◌≡◌, ◌+◌, ◌<◌, ◌≤◌, ◌++◌, All, IfOk, IfSome, IsTrue, Some, count_by, is_some, length, option_to_list, position, string_bytes};
+ghost use Rattle.std.specs.Prelude.{◌≡◌, ◌+◌, ◌*◌, ◌<◌, ◌≤◌, ◌++◌, All, IfOk, IfSome, IsTrue, Some, count_by, is_some, length, option_to_list, position, string_bytes};
 ghost use Rattle.std.specs.List.{list_all};
 ghost use Rattle.std.specs.Str.{bytes_eq};
-ghost use Rattle.command_words.specs.Words.{are_check_words, are_few, are_refs_named, cache_place, check_files, check_words, is_cache, is_check_word, is_name_word, is_own_name, is_proof, is_ref, is_show, names_file, proof_place, tells_name, tells_show, word_index, word_at, words_bytes};
+ghost use Rattle.command_words.specs.Words.{are_check_words, are_few, are_refs_named, cache_place, check_files, check_words, infers_alone, is_cache, is_check_word, is_infer, is_name_word, is_own_name, is_proof, is_ref, is_show, names_file, proof_place, tells_name, tells_option, word_index, word_at, words_bytes};
 
 use crate::names::is_name_word;
 use std::alloc::{AllocError, Global};
 
-/// The words of a check: `check`, and then its files, perhaps `--show`, perhaps `--cache` and the name of a cache, and
-/// perhaps `--proof` and the name of a proof file, in any order. All other words name files, or tell references
-/// (`LinkedWords`).
+/// The words of a check: `check`, and then its files, perhaps `--show`, perhaps `--infer`, perhaps `--cache` and the
+/// name of a cache, and perhaps `--proof` and the name of a proof file, in any order, but not `--infer` with `--proof`.
+/// All other words name files, or tell references (`LinkedWords`).
 #[derive(Clone, Copy, Debug, PartialEq, Eq)]
 pub struct CheckWords {
     /// The number of all words, with `check` and what is no file: at most 102.
     pub count: u32,
     /// The index of `--show`, where it is among them.
     pub show: Option<u32>,
+    /// The index of `--infer`, where it is among them.
+    pub infer: Option<u32>,
     /// The index of the name of the cache, right after `--cache`, where that is among them.
     pub cache: Option<u32>,
     /// The index of the name of the proof file that is written, right after `--proof`, where that is among them.
@@ -31,21 +33,21 @@ impl CheckWords {
         self.show.is_some()
     }
 
-    /// Returns whether the word at an index is `--show`.
-    fn tells_show(&self, index: u32) -> bool
-        ensures { result ≡ tells_show self.now.show index }
+    /// Returns whether methods get the Ensures that their returns show.
+    pub fn infers(&self) -> bool
+        ensures { result ≡ is_some self.now.infer }
     {
-        match self.show {
-            Some(show) => index == show,
-            None => false,
-        }
+        self.infer.is_some()
     }
 
     /// Returns whether the word at an index, which is not that of `check`, names a file.
     fn names_file(&self, index: u32) -> bool
         ensures { result ≡ names_file self.now index }
     {
-        !self.tells_show(index) && !tells_name(self.cache, index) && !tells_name(self.proof, index)
+        !tells_option(self.show, index)
+            && !tells_option(self.infer, index)
+            && !tells_name(self.cache, index)
+            && !tells_name(self.proof, index)
     }
 
     /// The indexes of the words that name files, in their order, where none tells a reference.
@@ -55,6 +57,16 @@ impl CheckWords {
         (1..self.count)
             .filter(|index| self.names_file(*index))
             .collect(alloc)
+    }
+}
+
+/// Returns whether the word at an index is the option at another.
+fn tells_option(option: Option<u32>, index: u32) -> bool
+    ensures { result ≡ tells_option option index }
+{
+    match option {
+        Some(option) => index == option,
+        None => false,
     }
 }
 
@@ -73,6 +85,13 @@ fn is_show(word: &String) -> bool
     ensures { result ≡ is_show (string_bytes word.now) }
 {
     word.as_str() == "--show"
+}
+
+/// Returns whether a word asks for the Ensures that returns show.
+fn is_infer(word: &String) -> bool
+    ensures { result ≡ is_infer (string_bytes word.now) }
+{
+    word.as_str() == "--infer"
 }
 
 /// Returns whether a cache is named after this word.
@@ -107,7 +126,12 @@ fn is_file(word: &String) -> bool
 fn is_check_word(word: &String) -> bool
     ensures { result ≡ is_check_word (string_bytes word.now) }
 {
-    is_show(word) || is_cache(word) || is_proof(word) || is_ref(word) || is_file(word)
+    is_show(word)
+        || is_infer(word)
+        || is_cache(word)
+        || is_proof(word)
+        || is_ref(word)
+        || is_file(word)
 }
 
 /// Returns whether each word may stand after `check`.
@@ -130,6 +154,14 @@ fn count_shows(words: &[String]) -> usize
     ensures { result ≡ count_by is_show (words_bytes words.now) }
 {
     words.iter().filter(|word| is_show(word)).count()
+}
+
+/// How many words ask for the Ensures that returns show.
+#[tactic(auto, using(crate::proofs::WordBytes::told))]
+fn count_infers(words: &[String]) -> usize
+    ensures { result ≡ count_by is_infer (words_bytes words.now) }
+{
+    words.iter().filter(|word| is_infer(word)).count()
 }
 
 /// After how many words a cache is named.
@@ -178,6 +210,22 @@ fn show_place(words: &[String]) -> Option<usize>
     ensures bound { IfSome result (λ place. place ≤ length words.now) }
 {
     first_show(words)
+}
+
+/// The place of the first word that asks for the Ensures that returns show.
+fn first_infer(words: &[String]) -> Option<usize>
+    ensures value { result ≡ position (λ word. is_infer (string_bytes word)) words.now }
+    ensures bound { IfSome result (λ place. place < length words.now) }
+{
+    words.iter().position(is_infer)
+}
+
+/// The same, told of the bytes of the words.
+fn infer_place(words: &[String]) -> Option<usize>
+    ensures value { result ≡ position is_infer (words_bytes words.now) }
+    ensures bound { IfSome result (λ place. place ≤ length words.now) }
+{
+    first_infer(words)
 }
 
 /// The place of the first word after which a cache is named.
@@ -264,27 +312,39 @@ const MAX_FILES: usize = 64;
 /// The most references that it may have.
 pub(crate) const MAX_REFS: usize = 16;
 
-/// Returns whether at most one word asks for invariants, a cache and a proof file are named at most once each and
-/// references at most 16 times, and 1 to 64 words name other files.
+/// Returns whether at most one word asks for invariants and one for the Ensures that returns show, a cache and a proof
+/// file are named at most once each and references at most 16 times, and 1 to 64 words name other files.
 fn are_few(words: &[String]) -> bool
     ensures value { result ≡ are_few (words_bytes words.now) }
-    ensures few { IsTrue result → length words.now ≤ 101 }
+    ensures few { IsTrue result → length words.now ≤ 67 + (count_by is_infer (words_bytes words.now)
+        + 2 * (count_by is_proof (words_bytes words.now) + count_by is_ref (words_bytes words.now))) }
+    ensures infers { IsTrue result → count_by is_infer (words_bytes words.now) ≤ 1 }
+    ensures proofs { IsTrue result → count_by is_proof (words_bytes words.now) ≤ 1 }
     ensures refs { IsTrue result → count_by is_ref (words_bytes words.now) ≤ 16 }
 {
     let shows = count_shows(words);
+    let infers = count_infers(words);
     let caches = count_caches(words);
     let proofs = count_proofs(words);
     let refs = count_refs(words);
-    if shows > 1 || caches > 1 || proofs > 1 || refs > MAX_REFS {
+    if shows > 1 || infers > 1 || caches > 1 || proofs > 1 || refs > MAX_REFS {
         return false;
     }
     let files = words
         .len()
-        .saturating_sub(shows + 2 * (caches + (proofs + refs)));
+        .saturating_sub(shows + (infers + 2 * (caches + (proofs + refs))));
     1 <= files && files <= MAX_FILES
 }
 
+/// Returns whether no word asks for the Ensures that returns show, or neither a proof file nor a reference is named.
+fn infers_alone(words: &[String]) -> bool
+    ensures { result ≡ infers_alone (words_bytes words.now) }
+{
+    count_infers(words) == 0 || (count_proofs(words) == 0 && count_refs(words) == 0)
+}
+
 /// Returns whether these words may stand after `check`.
+#[tactic(auto, using(crate::proofs::InferWords::few_words))]
 fn are_check_words(words: &[String]) -> bool
     ensures value { result ≡ are_check_words (words_bytes words.now) }
     ensures few { IsTrue result → length words.now ≤ 101 }
@@ -295,6 +355,7 @@ fn are_check_words(words: &[String]) -> bool
 {
     may_follow(words)
         && are_few(words)
+        && infers_alone(words)
         && are_refs_named(words)
         && is_own_name(words, cache_place(words))
         && is_own_name(words, proof_place(words))
@@ -311,9 +372,9 @@ fn word_index(place: Option<usize>) -> Option<u32>
     }
 }
 
-/// The words of a check, where these stand after `check`: 1 to 64 files, perhaps `--show`, perhaps `--cache` and a name,
-/// perhaps `--proof` and another, and at most 16 times `--ref` and a name. No file and no reference has the name of the
-/// cache or of the proof file.
+/// The words of a check, where these stand after `check`: 1 to 64 files, perhaps `--show`, perhaps `--cache` and a
+/// name, and perhaps `--infer`, or else perhaps `--proof` and a name, and at most 16 times `--ref` and a name. No file
+/// and no reference has the name of the cache or of the proof file.
 #[tactic(auto, unfolding(crate::specs::Words::check_words))]
 pub fn read_check(words: &[String]) -> Option<CheckWords>
     ensures inside { IfSome result (λ check. All (λ index. index < length words.now + 1) (check_files check ++ option_to_list check.cache ++ option_to_list check.proof)) }
@@ -328,6 +389,7 @@ pub fn read_check(words: &[String]) -> Option<CheckWords>
     Some(CheckWords {
         count: words.len() as u32 + 1,
         show: word_index(show_place(words)),
+        infer: word_index(infer_place(words)),
         cache: word_index(cache_place(words)),
         proof: word_index(proof_place(words)),
     })

@@ -22,8 +22,8 @@ pub enum Command {
     List(u32),
     /// The instructions of a method: the file of its assembly, then the method.
     Il(u32, u32),
-    /// The reports of the assemblies in files, with the invariants of their methods or without, and with a cache and a
-    /// proof file that is written or without them.
+    /// The reports of the assemblies in files, with the invariants of their methods and the Ensures that returns show or
+    /// without, and with a cache and a proof file that is written or without them.
     Check(CheckWords),
     /// The same of assemblies that are linked with each other, with references among them.
     Linked(LinkedWords),

@@ -10,7 +10,8 @@ use Rattle.cil_model.specs.declared.clause.Clause.{Clause}
 use Rattle.cil_model.specs.declared.unit.CalleeInfo.{CalleeInfo}
 use Rattle.cil_model.specs.declared.unit.Unit.{Unit as MethodUnit}
 use Rattle.cil_model.proofs.Lists.{all_append}
-use Rattle.ensures_infer.specs.Strengthening.{CanBeAdded, CanBeAddedTo, CanBeAddedToEach, strengthened, with_added, with_each_added}
+use Rattle.ensures_infer.specs.Strengthening.{CanBeAdded, CanBeAddedTo, CanBeAddedToEach}
+use Rattle.safe_worlds.specs.Strengthened.{strengthened, with_clauses, with_each}
 use Rattle.ensures_infer.proofs.SameTyping.{kinds_again}
 
 added_ints : (added : List Clause) → AllByRecursion IsAdded added → AllByRecursion HasInts added
@@ -18,7 +19,7 @@ added_ints [] all = tt
 added_ints (clause ∷ added) all = (all.0.1, added_ints added all.1)
 
 callee_again : (callee : CalleeInfo) (added : List Clause) → IsCallee callee → CanBeAddedTo callee added
-    → IsCallee (with_added callee added)
+    → IsCallee (with_clauses callee added)
 callee_again callee added is can = record {
   args = is.args;
   few_args = is.few_args;
@@ -29,7 +30,7 @@ callee_again callee added is can = record {
 }
 
 callees_again : (callees : List CalleeInfo) (added : List (List Clause)) → AllByRecursion IsCallee callees
-    → CanBeAddedToEach callees added → AllByRecursion IsCallee (with_each_added callees added)
+    → CanBeAddedToEach callees added → AllByRecursion IsCallee (with_each callees added)
 callees_again [] [] all can = tt
 callees_again [] (clauses ∷ added) all can = tt
 callees_again (callee ∷ callees) [] all can = absurd can
@@ -37,7 +38,7 @@ callees_again (callee ∷ callees) (clauses ∷ added) all can =
     (callee_again callee clauses all.0 can.0, callees_again callees added all.1 can.1)
 
 as_many : (callees : List CalleeInfo) (added : List (List Clause))
-    → length (with_each_added callees added) ≡ length callees
+    → length (with_each callees added) ≡ length callees
 as_many [] added = refl
 as_many (callee ∷ callees) [] = refl
 as_many (callee ∷ callees) (clauses ∷ added) = ap (λ (n : ℕ). suc n) (as_many callees added)

@@ -15,7 +15,7 @@ use Rattle.cil_model.specs.declared.type_fault.TypeFault.TheVariants.{Underflow}
 use Rattle.cil_model.specs.declared.unit.CalleeInfo.{CalleeInfo}
 use Rattle.cil_model.specs.declared.unit_numbers.UnitCall.{UnitCall}
 use Rattle.cil_model.specs.declared.unit_numbers.UnitCall.TheVariants as calls
-use Rattle.ensures_infer.specs.Strengthening.{with_added, with_each_added}
+use Rattle.safe_worlds.specs.Strengthened.{with_each}
 
 -- ---- callees
 
@@ -31,7 +31,7 @@ alike_itself None = tt
 alike_itself (Some callee) = (refl, refl)
 
 called_alike : (callees : List CalleeInfo) (added : List (List Clause)) (n : ℕ)
-    → AreCalledAlike (slice_get callees n) (slice_get (with_each_added callees added) n)
+    → AreCalledAlike (slice_get callees n) (slice_get (with_each callees added) n)
 called_alike [] added n = alike_itself (slice_get [] n)
 called_alike (callee ∷ callees) [] n = alike_itself (slice_get (callee ∷ callees) n)
 called_alike (callee ∷ callees) (clauses ∷ added) zero = (refl, refl)
@@ -137,6 +137,6 @@ module _ (s : Shape) (others : List CalleeInfo)
   }
 
 pub kinds_again : (s : Shape) (added : List (List Clause)) (is : List Instr) (stacks : Stacks) → KindsOf s is stacks
-    → KindsOf (record s { callees = with_each_added s.callees added }) is stacks
+    → KindsOf (record s { callees = with_each s.callees added }) is stacks
 kinds_again s added is stacks kinds =
-    same_kinds s (with_each_added s.callees added) (called_alike s.callees added) is stacks kinds
+    same_kinds s (with_each s.callees added) (called_alike s.callees added) is stacks kinds

@@ -4,8 +4,8 @@ ghost use Rattle.std.specs.Prelude.{◌≡◌, ◌++◌, length, IfOk};
 ghost use Rattle.cil_model.specs.Passes.{KindsOf, Stacks};
 ghost use Rattle.cil_model.specs.Shapes.{shape_of};
 ghost use Rattle.cil_model.specs.WellFormed.{IsWellFormed};
-ghost use Rattle.ensures_infer.specs.Strengthening as rule;
 ghost use Rattle.ensures_infer.specs.Strengthening.{CanBeAdded, CanBeAddedToEach};
+ghost use Rattle.safe_worlds.specs.Strengthened as rule;
 
 use cil_model::{CalleeInfo, Clause, List, Unit, copy_clauses};
 use domain_api::NoMemory;
@@ -28,7 +28,7 @@ fn strengthened(
     callee: &CalleeInfo,
     added: &[Clause],
 ) -> Result<CalleeInfo, NoMemory>
-    ensures { IfOk result (λ new. new ≡ rule.with_added callee.now added.now) }
+    ensures { IfOk result (λ new. new ≡ rule.with_clauses callee.now added.now) }
 {
     Ok(CalleeInfo {
         name: callee.name.copy(alloc)?,
@@ -45,7 +45,7 @@ fn all_strengthened(
     added: &[List<Clause>],
 ) -> Result<List<CalleeInfo>, NoMemory>
     requires { length added.now ≡ length callees.now }
-    ensures { IfOk result (λ all. all ≡ rule.with_each_added callees.now added.now) }
+    ensures { IfOk result (λ all. all ≡ rule.with_each callees.now added.now) }
 {
     let mut all = Vec::with_capacity(alloc, callees.len())?;
     for i in 0..callees.len() {
@@ -56,8 +56,8 @@ fn all_strengthened(
 
 /// The unit with clauses after its own, and with clauses after those of each method that it calls, in their order.
 ///
-/// The caller owes a list for each of these methods. Where the clauses may be added (`CanBeAdded`), what was well formed
-/// is so again.
+/// The caller owes a list for each of these methods. Where the clauses may be added (`CanBeAdded`), what was well
+/// formed is so again.
 ///
 /// Cost: linear in the bytes of the unit and the nodes of the clauses.
 pub fn strengthen(

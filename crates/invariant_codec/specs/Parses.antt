@@ -4,7 +4,8 @@ use Rattle.cc_base.specs.Tests.{must}
 use Rattle.invariant_codec.specs.declared.fault.InvFault.{InvFault}
 use Rattle.invariant_codec.specs.declared.fault.InvFault.TheVariants.{Short}
 
--- The tests that are made, in order, with their faults, and, where each is passed, what was read and the offset after it.
+-- The tests that are made, in order, with their faults, and, where each is passed, what was read and the offset after
+-- it.
 pub record ParseBy (F X : Type 0) : Type 0 where
   pub tests : List (Option F)
   pub value : X

@@ -1,5 +1,5 @@
--- A text is read exactly where it is that of states: of printable states, whose symbols and references 32 bits name since
--- the text is shorter than 4 GiB.
+-- A text is read exactly where it is that of states: of printable states, whose symbols and references 32 bits name
+-- since the text is shorter than 4 GiB.
 use Rattle.std.proofs.Common.{◌≡◌, ℕ, ◌+◌, ◌<◌, ◌≤◌, ◌^◌, true, false, List, [], ◌∷◌, ◌++◌, length, Option, Some, None}
 use Rattle.std.proofs.Common.{sym, ap, ◌∙◌, arith, length-append}
 use Rattle.std.specs.List.{AllByRecursion, zip}

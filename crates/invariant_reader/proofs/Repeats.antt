@@ -7,8 +7,8 @@ use Rattle.invariant_text.specs.Lines.{numbered}
 use Rattle.invariant_text.proofs.ListReading.{AllFrom}
 use Rattle.invariant_reader.specs.ReadsBack.{ReadsBack}
 
--- The text of an item by its number, what is asked of the item, what is asked of the text behind it, whether a text goes
--- on with an item, and how one is added.
+-- The text of an item by its number, what is asked of the item, what is asked of the text behind it, whether a text
+-- goes on with an item, and how one is added.
 pub record Repeat (A X : Type 0) : Type 1 where
   pub text_of : ℕ → X → List ℕ
   pub Is : ℕ → X → Type 0

@@ -14,8 +14,8 @@ ReadsBack {X} text_of Is Ends text read =
 abbrev pub AnyEnd : List ℕ → Type 0
 AnyEnd rest = Unit {0}
 
--- The values are the lines of one kind, which are numbered from a first number on. The text goes on with a line of a later
--- kind.
+-- The values are the lines of one kind, which are numbered from a first number on. The text goes on with a line of a
+-- later kind.
 abbrev pub ReadsSection : {X : Type 0} → (ℕ → X → List ℕ) → (ℕ → X → Type 0) → (kind first : ℕ) → List ℕ
     → Option (List X × List ℕ) → Type 0
 ReadsSection {X} line_of Is kind first text read =

@@ -120,7 +120,8 @@ own_put a keys ranges i j x tight form own is more first second =
     plain m n None first second = refl
     plain m n (Some k) first second = ap Some (omega (arith, ints, first, second))
 
--- A state in the names of its own symbols, and its new ranges: it is tight, and each of its bounds says more than these.
+-- A state in the names of its own symbols, and its new ranges: it is tight, and each of its bounds says more than
+-- these.
 record IsKept (a : Known) (keys : List Key) (ranges : List Interval) : Type 0 where
   tight : IsTight a
   form : AreBounds a.bounds

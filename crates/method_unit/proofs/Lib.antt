@@ -2,6 +2,7 @@ pub mod CalleeOrder
 pub mod SameLists
 pub mod SameUnits
 pub mod Places
+pub mod ToldClauses
 pub mod Made
 pub mod OrderOfUse
 pub mod UnitAgain

@@ -1,14 +1,12 @@
 -- A unit's spelling, in each form, passes the tests of a unit file, and the unit is read from it again.
-use Rattle.std.proofs.Common.{◌≡◌, ℕ, ◌≤◌, List, [], ◌∷◌, length, map, filter_map, None, option_map, slice_get, refl, sym, ap, ap₂, subst, ◌∙◌, arith}
+use Rattle.std.proofs.Common.{◌≡◌, ℕ, ◌≤◌, List, [], ◌++◌, length, None, option_map, slice_get, sym, ap, ap₂, subst, ◌∙◌, arith}
 use Rattle.std.proofs.lemmas.Option.{slice_get_past}
 use Rattle.cc_base.specs.Tests.{first_of}
-use Rattle.cc_base.proofs.TestLemmas.{first_of-append_none, first_of-nil, first_of-none}
+use Rattle.cc_base.proofs.TestLemmas.{first_of-append_none, first_of-nil, first_of-none, must_hold}
 use Rattle.cil_model.specs.Blocks.{start_of_body}
-use Rattle.cil_model.specs.ClauseTrees.{clauses_in}
 use Rattle.cil_model.specs.Limits.{MAX_BLOCKS, MAX_INSTRUCTIONS}
 use Rattle.cil_model.specs.Shapes.{shape_of}
-use Rattle.cil_model.specs.WellFormed.{IsWellFormed, told_by_code}
-use Rattle.cil_model.specs.declared.clause.Clause.{Clause}
+use Rattle.cil_model.specs.WellFormed.{IsWellFormed}
 use Rattle.cil_model.specs.declared.instruction.Instr.{Instr}
 use Rattle.cil_model.specs.declared.unit.Unit.{Unit as MethodUnit}
 use Rattle.clause_faults.specs.Faults.{fault_at as clause_fault_at}
@@ -19,15 +17,18 @@ use Rattle.il_decoder.specs.Decoding.{instructions_of}
 use Rattle.il_decoder.specs.Faults.{fault_at as il_fault_at}
 use Rattle.stack_typer.proofs.Settling.{kinds_no_fault}
 use Rattle.stack_typer.specs.FaultPlaces.{type_fault_at}
+use Rattle.unit_form.proofs.AddedClauses.{may_be_added}
 use Rattle.unit_form.proofs.OffsetsCounted.{offsets_counted}
 use Rattle.unit_form.proofs.UnitAgain.{UnitAgain, unit_again as fields_again, written_spells}
+use Rattle.unit_form.specs.AddedClauses.{added_clauses}
 use Rattle.unit_form.specs.FieldsRead.{HasRead}
 use Rattle.unit_form.specs.Spelling.{HasFields, IsSpelledBy, unit_bytes}
 use Rattle.unit_form.specs.UnitFields.{FieldsOfUnit, unit_fields}
-use Rattle.method_unit.specs.UnitFile.{block_test, clause_test, clause_told, code_tests_of, count_test, decoding_test, field_fault, field_test, first_unit_fault, form_at, instr_tests, number_tests, order_tests, shape_told, start_test, typing_test, unit_of, unit_told}
+use Rattle.method_unit.specs.UnitFile.{added_test, block_test, clause_test, code_tests_of, count_test, decoding_test, field_fault, field_test, first_unit_fault, fit_together, form_at, instr_tests, number_tests, order_tests, shape_told, start_test, told_clauses, typing_test, unit_of, unit_told}
 use Rattle.method_unit.specs.Units.{IsUnit}
 use Rattle.method_unit.specs.declared.unit_fault.UnitFault.{UnitFault}
 use Rattle.method_unit.proofs.OrderOfUse.{named_are_numbers, use_is_ordered, used_are_few}
+use Rattle.method_unit.proofs.ToldClauses.{all_together, fit_within}
 
 -- ---- the fields
 
@@ -40,6 +41,7 @@ unit_has_fields unit well = record {
   callees = well.callees;
   count = omega (arith, used_are_few (length unit.callees) unit.instrs well.order, well.limits.instructions);
   code = well.limits.code;
+  added = may_be_added unit well;
 }
 
 -- ---- the tests of the code
@@ -63,6 +65,11 @@ module _ (unit : MethodUnit) (is : IsUnit unit) where
   unfolding clause_test
   clauses_pass base = ap (option_map (λ fault. form_at base (clause_fault_at fault))) is.clauses
 
+  added_passes : (at : ℕ) → added_test (told_clauses unit.instrs) (added_clauses unit) at ≡ None
+  unfolding added_test
+  added_passes at =
+      (must_hold _ _).1 (ap fit_together (all_together unit is.well_formed) ∙ fit_within unit.clauses is.well_formed.limits.clauses)
+
   typing_passes : (base : ℕ) → typing_test base unit.instrs (shape_of unit) ≡ None
   unfolding typing_test
   typing_passes base = ap (option_map (λ fault. form_at base (type_fault_at fault))) (kinds_no_fault (shape_of unit) unit.instrs is.well_formed.runs.stacks is.well_formed.runs.kinds)
@@ -74,16 +81,17 @@ module _ (unit : MethodUnit) (is : IsUnit unit) where
   order_passes : (offsets : List ℕ) → length offsets ≡ length unit.callees → first_of (order_tests unit.instrs offsets) ≡ None
   order_passes offsets counted = use_is_ordered unit.instrs offsets (rw counted is.well_formed.order)
 
-  instrs_pass : (base : ℕ) (offsets : List ℕ) → length offsets ≡ length unit.callees → first_of (instr_tests base (shape_of unit) offsets unit.instrs) ≡ None
+  instrs_pass : (base : ℕ) (offsets : List ℕ) (at : ℕ) → length offsets ≡ length unit.callees → first_of (instr_tests base (shape_of unit) offsets (added_clauses unit) at unit.instrs) ≡ None
   unfolding instr_tests
-  instrs_pass base offsets counted =
+  instrs_pass base offsets at counted =
       first_of-none (count_test base unit.instrs) _ (count_passes base unit.instrs is.well_formed.limits.instructions)
       ∙ (first_of-append_none (number_tests base (length unit.callees) unit.instrs) _
       (named_are_numbers base (length unit.callees) unit.instrs is.well_formed.named is.well_formed.order)
       ∙ (first_of-none (clause_test base unit.instrs (shape_of unit)) _ (clauses_pass base)
+      ∙ (first_of-none (added_test (told_clauses unit.instrs) (added_clauses unit) at) _ (added_passes at)
       ∙ (first_of-none (block_test base unit.instrs) _ (starts_pass base (block_starts unit.instrs (start_of_body unit.instrs)) few_blocks)
       ∙ (first_of-append_none (order_tests unit.instrs offsets) _ (order_passes offsets counted)
-      ∙ (first_of-none (typing_test base unit.instrs (shape_of unit)) [] (typing_passes base) ∙ first_of-nil)))))
+      ∙ (first_of-none (typing_test base unit.instrs (shape_of unit)) [] (typing_passes base) ∙ first_of-nil))))))
 
   -- ---- the fields that are read
 
@@ -104,15 +112,12 @@ module _ (unit : MethodUnit) (is : IsUnit unit) where
     unfolding code_tests_of
     code_passes counted =
         first_of-none (decoding_test fields.code_offset fields.code) _ (ap (decoding_test fields.code_offset) (sym has.code) ∙ decoding_passes fields.code_offset)
-        ∙ (ap₂ (λ shape all. first_of (instr_tests fields.code_offset shape fields.callee_offsets all)) same_shape same_instrs
-        ∙ instrs_pass fields.code_offset fields.callee_offsets (counted ∙ ap length (sym has.callees)))
+        ∙ (ap₂ (λ shape all. first_of (instr_tests fields.code_offset shape fields.callee_offsets fields.added fields.added_offset all)) same_shape same_instrs
+        ∙ (ap (λ added. first_of (instr_tests fields.code_offset (shape_of unit) fields.callee_offsets added fields.added_offset unit.instrs)) (sym has.added)
+        ∙ instrs_pass fields.code_offset fields.callee_offsets fields.added_offset (counted ∙ ap length (sym has.callees))))
 
-    clauses_told : (clauses : List Clause) → filter_map clause_told (map told_by_code clauses) ≡ clauses
-    clauses_told [] = refl
-    clauses_told (clause ∷ clauses) = ap (λ others. clause ∷ others) (clauses_told clauses)
-
-    same_clauses : filter_map clause_told (clauses_in (instructions_of fields.code)) ≡ unit.clauses
-    same_clauses = ap (λ all. filter_map clause_told (clauses_in all)) same_instrs ∙ (ap (filter_map clause_told) is.told ∙ clauses_told unit.clauses)
+    same_clauses : told_clauses (instructions_of fields.code) ++ fields.added ≡ unit.clauses
+    same_clauses = ap₂ (λ all added. told_clauses all ++ added) same_instrs (sym has.added) ∙ all_together unit is.well_formed
 
     same_body : start_of_body (instructions_of fields.code) ≡ unit.body_start
     same_body = ap start_of_body same_instrs ∙ sym is.well_formed.body

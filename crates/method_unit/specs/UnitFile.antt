@@ -1,12 +1,12 @@
 -- The tests of a unit file, in order, and the unit of a file that passes them. Those of the code say where in the file
 -- an instruction, a block or a callee stands.
-use Rattle.std.specs.Prelude.{ℕ, suc, ◌+◌, ◌==◌, nat_lt, Bool, true, ◌&&◌, List, [], ◌∷◌, ◌++◌, length, map, filter_map, slice_get, is_some, Option, Some, option_map, if◌then◌else◌}
+use Rattle.std.specs.Prelude.{ℕ, suc, ◌+◌, ◌==◌, nat_le, nat_lt, Bool, true, ◌&&◌, List, [], ◌∷◌, ◌++◌, length, map, filter_map, slice_get, is_some, Option, Some, option_map, if◌then◌else◌}
 use Rattle.std.specs.Option.{option_map_or}
 use Rattle.std.specs.List.{list_any}
 use Rattle.cc_base.specs.Tests.{first_of, must}
 use Rattle.cil_model.specs.Blocks.{start_of_body}
 use Rattle.cil_model.specs.ClauseTrees.{clauses_in}
-use Rattle.cil_model.specs.Limits.{MAX_BLOCKS, MAX_INSTRUCTIONS}
+use Rattle.cil_model.specs.Limits.{MAX_BLOCKS, MAX_CLAUSES, MAX_INSTRUCTIONS, MAX_OLD_VALUES}
 use Rattle.cil_model.specs.Terms.{Term}
 use Rattle.cil_model.specs.UnitCalls.{array_place, unit_call}
 use Rattle.cil_model.specs.WellFormed.{called_by}
@@ -23,6 +23,7 @@ use Rattle.il_decoder.specs.Decoding.{code_tests, instructions_of}
 use Rattle.il_decoder.specs.Faults.{fault_at as il_fault_at}
 use Rattle.stack_typer.specs.FaultPlaces.{type_fault_at}
 use Rattle.stack_typer.specs.FirstTypeFault.{first_type_fault}
+use Rattle.unit_form.specs.Callees.{olds_in}
 use Rattle.unit_form.specs.UnitFields.{FieldsOfUnit, unit_fields}
 use Rattle.unit_form.specs.declared.field_fault.FieldFault.{FieldFault}
 use Rattle.unit_form.specs.declared.field_fault.FieldFault.TheVariants as fields
@@ -94,6 +95,22 @@ number_tests base callees is = map (number_test base callees) is
 unfoldable pub clause_test : ℕ → List Instr → Shape → Option UnitFault
 clause_test base is shape = option_map (λ fault. form_at base (clause_fault_at fault)) (first_clause_fault is shape)
 
+-- A clause of this kind, where its code tells a tree.
+abbrev pub clause_told : ClauseKind × Option Term → Option Clause
+clause_told (kind, tree) = option_map (λ term. record { kind = kind; tree = term }) tree
+
+-- The clauses that the code tells.
+abbrev pub told_clauses : List Instr → List Clause
+told_clauses is = filter_map clause_told (clauses_in is)
+
+-- A method may have so many clauses, with so many old values together.
+abbrev pub fit_together : List Clause → Bool
+fit_together clauses = nat_le (length clauses) MAX_CLAUSES && nat_le (olds_in clauses) MAX_OLD_VALUES
+
+-- These clauses and those that were added, which begin at this offset of the file, fit together.
+unfoldable pub added_test : List Clause → List Clause → ℕ → Option UnitFault
+added_test clauses added at = must (fit_together (clauses ++ added)) (Form at)
+
 -- No block stands past the limit, where blocks start at these IL offsets.
 unfoldable pub start_test : ℕ → List ℕ → Option UnitFault
 start_test base starts = option_map (form_at base) (slice_get starts MAX_BLOCKS)
@@ -139,13 +156,14 @@ shape_told fields = record {
   callees = fields.callees;
 }
 
--- What is tested of the instructions of a method of this shape, whose code begins at the offset `base` of the file, and
--- its callees at these offsets.
-unfoldable pub instr_tests : ℕ → Shape → List ℕ → List Instr → List (Option UnitFault)
-instr_tests base shape offsets is =
+-- What is tested of the instructions of a method of this shape, to whose clauses these were added. In the file the code
+-- begins at the offset `base`, the callees at these offsets, and the added clauses at `at`.
+unfoldable pub instr_tests : ℕ → Shape → List ℕ → List Clause → ℕ → List Instr → List (Option UnitFault)
+instr_tests base shape offsets added at is =
     count_test base is
     ∷ (number_tests base (length shape.callees) is
     ++ (clause_test base is shape
+    ∷ added_test (told_clauses is) added at
     ∷ block_test base is
     ∷ (order_tests is offsets
     ++ (typing_test base is shape ∷ []))))
@@ -153,17 +171,14 @@ instr_tests base shape offsets is =
 -- All that is tested after the fields.
 unfoldable pub code_tests_of : FieldsOfUnit → List (Option UnitFault)
 code_tests_of fields =
-    decoding_test fields.code_offset fields.code ∷ instr_tests fields.code_offset (shape_told fields) fields.callee_offsets (instructions_of fields.code)
+    decoding_test fields.code_offset fields.code
+    ∷ instr_tests fields.code_offset (shape_told fields) fields.callee_offsets fields.added fields.added_offset (instructions_of fields.code)
 
 -- The first fault of a unit file, or none where it spells a unit.
 unfoldable pub first_unit_fault : List ℕ → Option UnitFault
 first_unit_fault bytes = first_of (field_test bytes ∷ code_tests_of (unit_fields bytes).value)
 
 -- ---- the unit
-
--- A clause of this kind, where its code tells a tree.
-abbrev pub clause_told : ClauseKind × Option Term → Option Clause
-clause_told (kind, tree) = option_map (λ term. record { kind = kind; tree = term }) tree
 
 -- The unit of these fields and these instructions.
 abbrev pub unit_told : FieldsOfUnit → List Instr → MethodUnit
@@ -175,7 +190,7 @@ unit_told fields is = record {
   max_stack = fields.max_stack;
   callees = fields.callees;
   code = fields.code;
-  clauses = filter_map clause_told (clauses_in is);
+  clauses = told_clauses is ++ fields.added;
   body_start = start_of_body is;
   instrs = is;
 }

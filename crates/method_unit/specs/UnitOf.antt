@@ -1,5 +1,5 @@
 -- What is read of a unit file without a fault.
-use Rattle.std.specs.Prelude.{◌≡◌, ℕ, List}
+use Rattle.std.specs.Prelude.{◌≡◌, ℕ, List, ◌++◌}
 use Rattle.std.specs.List.{AllByRecursion}
 use Rattle.cil_model.specs.Code.{CodeOf}
 use Rattle.cil_model.specs.Bodies.{HasBody}
@@ -7,6 +7,7 @@ use Rattle.cil_model.specs.FitKinds.{AreDecoded, NeverStuck}
 use Rattle.cil_model.specs.Passes.{KindsOf, Stacks}
 use Rattle.cil_model.specs.TreeKinds.{IsNumberClause}
 use Rattle.cil_model.specs.WellFormed.{ClausesWithinLimits}
+use Rattle.cil_model.specs.declared.clause.Clause.{Clause}
 use Rattle.cil_model.specs.declared.instruction.Instr.{Instr}
 use Rattle.cil_model.specs.declared.unit.Unit.{Unit as MethodUnit}
 use Rattle.contract_extract.specs.Extracting.{AreContracts}
@@ -16,7 +17,7 @@ use Rattle.unit_form.specs.UnitFields.{FieldsOfUnit, unit_fields}
 use Rattle.method_unit.specs.UnitFile.{shape_told, unit_of}
 use Rattle.method_unit.specs.Units.{HasKinds, IsUnit}
 
--- The unit has these fields and these instructions, and the clauses that they tell.
+-- The unit has these fields and these instructions, the clauses that they tell, and after them those that were added.
 pub record HasTold (fields : FieldsOfUnit) (is : List Instr) (unit : MethodUnit) : Type 0 where
   pub name : unit.name ≡ fields.name
   pub result : unit.result ≡ fields.result
@@ -26,15 +27,17 @@ pub record HasTold (fields : FieldsOfUnit) (is : List Instr) (unit : MethodUnit)
   pub callees : unit.callees ≡ fields.callees
   pub code : unit.code ≡ fields.code
   pub instrs : unit.instrs ≡ is
-  pub contracts : AreContracts is unit.clauses unit.body_start
+  pub written : List Clause
+  pub contracts : AreContracts is written unit.body_start
+  pub clauses : unit.clauses ≡ written ++ fields.added
 
 -- And it has all that their tests tell.
 pub record IsUnitOf (fields : FieldsOfUnit) (is : List Instr) (unit : MethodUnit) : Type 0 where
   pub told : HasTold fields is unit
   pub spelled : CodeOf is fields.code
   pub kinds : HasKinds (shape_told fields) is
-  pub limits : ClausesWithinLimits unit.clauses
-  pub numbers : (stacks : Stacks) → AreDecoded is → KindsOf (shape_told fields) is stacks → AllByRecursion (IsNumberClause fields.args fields.result) unit.clauses
+  pub limits : ClausesWithinLimits told.written
+  pub numbers : (stacks : Stacks) → AreDecoded is → KindsOf (shape_told fields) is stacks → AllByRecursion (IsNumberClause fields.args fields.result) told.written
   pub body : (stacks : Stacks) → AreDecoded is → KindsOf (shape_told fields) is stacks → HasBody is stacks unit.body_start
 
 -- It is the unit of these bytes.

@@ -1,24 +1,22 @@
 -- Units that files spell.
-use Rattle.std.specs.Prelude.{◌≡◌, ℕ, ◌+◌, ◌<◌, ◌≤◌, ◌^◌, List, None, map}
+use Rattle.std.specs.Prelude.{◌≡◌, ℕ, ◌+◌, ◌<◌, ◌≤◌, ◌^◌, List, None}
 use Rattle.std.specs.List.{All, AllByRecursion}
-use Rattle.cil_model.specs.ClauseTrees.{clauses_in}
 use Rattle.cil_model.specs.Code.{CodeOf}
 use Rattle.cil_model.specs.Limits.{MAX_CODE_BYTES}
 use Rattle.cil_model.specs.Passes.{KindsOf, Stacks}
 use Rattle.cil_model.specs.ShortCode.{AreOfShortCode}
 use Rattle.cil_model.specs.Shapes.{shape_of}
-use Rattle.cil_model.specs.WellFormed.{IsWellFormed, told_by_code}
+use Rattle.cil_model.specs.WellFormed.{IsWellFormed}
 use Rattle.cil_model.specs.declared.instruction.Instr.{Instr}
 use Rattle.cil_model.specs.declared.shape.Shape.{Shape}
 use Rattle.cil_model.specs.declared.unit.Unit.{Unit as MethodUnit}
 use Rattle.clause_faults.specs.Faults.{first_clause_fault}
 use Rattle.cil_model.specs.Offsets.{AreLaidOut}
 
--- The unit is well formed, its code has no fault of clauses, and no clause was added to those that the code tells.
+-- The unit is well formed, and its code has no fault of clauses.
 pub record IsUnit (unit : MethodUnit) : Type 0 where
   pub well_formed : IsWellFormed unit
   pub clauses : first_clause_fault unit.instrs (shape_of unit) ≡ None
-  pub told : clauses_in unit.instrs ≡ map told_by_code unit.clauses
 
 -- The instructions have kinds.
 abbrev pub HasKinds : Shape → List Instr → Type 0

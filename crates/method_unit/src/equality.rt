@@ -94,10 +94,8 @@ fn same_callees(a: &[CalleeInfo], b: &[CalleeInfo]) -> bool
     true
 }
 
-/// Returns whether two units are equal. Well formed units are equal where their files are, so instructions, clauses
-/// and the start
-/// of the body, which the code tells, are not compared.
-#[tactic(auto, using(crate::proofs::SameUnits::same_spelled))]
+/// Returns whether two units are equal. Instructions and the start of the body, which the code tells, are not compared.
+#[tactic(auto, using(crate::proofs::SameUnits::same_told))]
 pub fn same_unit(a: &Unit, b: &Unit) -> bool
     requires a { IsUnit a.now }
     requires b { IsUnit b.now }
@@ -110,4 +108,5 @@ pub fn same_unit(a: &Unit, b: &Unit) -> bool
         && same_places(a.args.as_slice(), b.args.as_slice())
         && same_places(a.locals.as_slice(), b.locals.as_slice())
         && same_callees(a.callees.as_slice(), b.callees.as_slice())
+        && same_clauses(a.clauses.as_slice(), b.clauses.as_slice())
 }

@@ -7,7 +7,8 @@ ghost use Rattle.method_unit.specs.Units.{IsUnit};
 use cil_model::Unit;
 use std::alloc::{AllocError, Global};
 
-/// The file of a unit in the second form, which is the key under which the unit is kept. `read_unit` reads it back.
+/// The file of a unit in the second form, or in the third where clauses were added; it is the key under which the unit
+/// is kept. `read_unit` reads it back.
 ///
 /// Cost: linear in the length of the file.
 #[tactic(auto, using(crate::proofs::UnitAgain::unit_has_fields))]

@@ -1,6 +1,6 @@
 //! The clauses and the blocks of a unit's code.
 
-ghost use Rattle.std.specs.Prelude.{◌≡◌, ◌+◌, ◌<◌, ◌≤◌, ◌^◌, ⊤, length, All, IfOk};
+ghost use Rattle.std.specs.Prelude.{◌≡◌, ◌+◌, ◌++◌, ◌<◌, ◌≤◌, ◌^◌, ⊤, length, All, IfOk};
 ghost use Rattle.std.specs.List.{AllByRecursion};
 ghost use Rattle.cc_base.specs.Tests.{Judges, JudgesOrNoMemory};
 ghost use Rattle.cil_model.specs.Blocks.{start_of_body};
@@ -14,11 +14,12 @@ ghost use Rattle.cil_model.specs.WellFormed.{ClausesWithinLimits};
 ghost use Rattle.contract_extract.specs.Extracting.{AreContracts};
 ghost use Rattle.cil_model.specs.Limits.{MAX_CODE_BYTES};
 ghost use Rattle.method_unit.specs.Units.{AreWithin};
-ghost use Rattle.method_unit.specs.UnitFile.{block_test, clause_test, start_test};
+ghost use Rattle.method_unit.specs.UnitFile.{added_test, block_test, clause_test, start_test, told_clauses};
+ghost use Rattle.unit_form.specs.Callees.{olds_in};
 
 use crate::unit_fault::{UnitFault, UnitRefusal};
-use cc_base::Refusal;
-use cil_model::{Instr, MAX_BLOCKS, Shape};
+use cc_base::{NoMemory, Refusal};
+use cil_model::{Clause, Instr, List, MAX_BLOCKS, MAX_CLAUSES, MAX_OLD_VALUES, Shape};
 use contract_extract::{Contracts, extract};
 use flow_graph::block_starts;
 use std::alloc::Global;
@@ -37,6 +38,7 @@ pub fn read_contracts(
     requires small { base + MAX_CODE_BYTES < 2 ^ 32 }
     ensures judged { JudgesOrNoMemory result (clause_test base instrs.now shape.now)
         (λ contracts. AreContracts instrs.now contracts.clauses contracts.body_start) }
+    ensures told { IfOk result (λ contracts. contracts.clauses ≡ told_clauses instrs.now) }
     ensures limits { IfOk result (λ contracts. ClausesWithinLimits contracts.clauses) }
     ensures numbers { (stacks : Stacks) → AreDecoded instrs.now → KindsOf shape.now instrs.now stacks
         → IfOk result (λ contracts. AllByRecursion (IsNumberClause shape.now.args shape.now.result) contracts.clauses) }
@@ -48,6 +50,44 @@ pub fn read_contracts(
         Err(Refusal::Bad(fault)) => Err(Refusal::Bad(UnitFault::Form(base + fault.at()))),
         Err(Refusal::NoMemory) => Err(Refusal::NoMemory),
     }
+}
+
+/// Returns how many old values clauses have together.
+fn old_values(clauses: &[Clause]) -> u32
+    requires within { ClausesWithinLimits clauses.now }
+    ensures { result ≡ olds_in clauses.now }
+{
+    let mut olds = 0;
+    for clause in clauses {
+        olds += clause.tree.old_count();
+    }
+    olds
+}
+
+/// Tests that a method may have these clauses together with those that were added, which begin at this offset of the
+/// file.
+#[tactic(auto, using(unit_form::proofs::AddedClauses::olds_together), unfolding(crate::specs::UnitFile::added_test))]
+pub fn check_added(clauses: &[Clause], added: &[Clause], at: u32) -> Result<(), UnitFault>
+    requires clauses { ClausesWithinLimits clauses.now }
+    requires added { ClausesWithinLimits added.now }
+    ensures { Judges result (added_test clauses.now added.now at) (λ _. ⊤) }
+{
+    let count = clauses.len() + added.len();
+    let olds = old_values(clauses) + old_values(added);
+    if count <= MAX_CLAUSES && olds as usize <= MAX_OLD_VALUES {
+        Ok(())
+    } else {
+        Err(UnitFault::Form(at))
+    }
+}
+
+/// The clauses that the code tells, and after them those that were added.
+pub fn with_added(told: List<Clause>, mut added: Vec<Clause>) -> Result<List<Clause>, NoMemory>
+    ensures { IfOk result (λ clauses. clauses ≡ told ++ added.items) }
+{
+    let mut clauses = told.into_vec();
+    clauses.append(&mut added)?;
+    Ok(List::from_vec(clauses))
 }
 
 /// Tests that no block starts past the limit, where blocks start at these IL offsets.

@@ -20,12 +20,12 @@ ghost use Rattle.method_unit.specs.UnitOf.{IsRead, IsUnitIn, IsUnitOf};
 ghost use Rattle.method_unit.specs.Units.{AreDecodedOf, IsUnit};
 
 use crate::callee_order::check_order;
-use crate::unit_clauses::{check_blocks, read_contracts};
+use crate::unit_clauses::{check_added, check_blocks, read_contracts, with_added};
 use crate::unit_code::{check_count, check_numbers, decode_code};
 use crate::unit_fault::{UnitFault, UnitRefusal};
 use crate::unit_kinds::find_kinds;
 use cc_base::Refusal;
-use cil_model::{Instr, List, Shape, Unit};
+use cil_model::{Clause, Instr, List, Shape, Unit};
 use contract_extract::Contracts;
 use stack_typer::{Kinds, TypedUnit};
 use std::alloc::Global;
@@ -37,6 +37,7 @@ fn fields_of(alloc: Global, bytes: &[u8]) -> Result<UnitFields<'_>, UnitRefusal>
     requires short { length bytes.now ≤ 2147483647 }
     ensures judged { JudgesOrNoMemory result (field_test bytes.now) (λ fields. fields_told fields ≡ (unit_fields bytes.now).value) }
     ensures code { IfOk result (IsCodeWithin bytes.now) }
+    ensures added { IfOk result (λ fields. ClausesWithinLimits fields.added.items) }
 {
     match read_fields(alloc, bytes) {
         Ok(fields) => Ok(fields),
@@ -45,7 +46,8 @@ fn fields_of(alloc: Global, bytes: &[u8]) -> Result<UnitFields<'_>, UnitRefusal>
     }
 }
 
-/// Tests the instructions of a unit, and answers its clauses and the start of its body, and the kinds of its code.
+/// Tests the instructions of a unit to whose clauses these were added, and answers its other clauses and the start of
+/// its body, and the kinds of its code.
 #[tactic(auto, using(cc_base::proofs::TestLemmas::carried, cc_base::proofs::TestLemmas::appended, cc_base::proofs::TestLemmas::first_tests), unfolding(crate::specs::UnitFile::instr_tests))]
 fn check_instrs(
     alloc: Global,
@@ -53,10 +55,13 @@ fn check_instrs(
     shape: &Shape,
     offsets: &[u32],
     base: u32,
+    added: &[Clause],
+    added_offset: u32,
 ) -> Result<(Contracts, Kinds), UnitRefusal>
     requires small { base + 65536 < 2 ^ 32 }
+    requires within { ClausesWithinLimits added.now }
     requires decoded { (code : List ℕ) × AreDecodedOf base code instrs.now }
-    ensures judged { JudgesOrNoMemory result (first_of (instr_tests base shape.now offsets.now instrs.now))
+    ensures judged { JudgesOrNoMemory result (first_of (instr_tests base shape.now offsets.now added.now added_offset instrs.now))
         (λ found. AreContracts instrs.now found.0.clauses found.0.body_start) }
     ensures kinds { IfOk result (λ found. KindsOf shape.now instrs.now found.1) }
     ensures limits { IfOk result (λ found. ClausesWithinLimits found.0.clauses) }
@@ -68,6 +73,7 @@ fn check_instrs(
     check_count(instrs, base)?;
     check_numbers(instrs, base, shape.callees.as_slice().len())?;
     let contracts = read_contracts(alloc, instrs, shape, base)?;
+    check_added(contracts.clauses.as_slice(), added, added_offset)?;
     check_blocks(alloc, instrs, contracts.body_start, base)?;
     check_order(instrs, offsets)?;
     let kinds = find_kinds(alloc, instrs, shape, base)?;
@@ -79,6 +85,7 @@ fn check_instrs(
 fn unit_at(alloc: Global, fields: UnitFields<'_>) -> Result<TypedUnit, UnitRefusal>
     requires short { length fields.code.now ≤ 65536 }
     requires small { fields.code_offset + 65536 < 2 ^ 32 }
+    requires added { ClausesWithinLimits fields.added.items }
     ensures judged { JudgesOrNoMemory result (first_of (code_tests_of (fields_told fields.entry)))
         (λ unit. IsUnitOf (fields_told fields.entry) (instructions_of fields.entry.code.now) unit) }
 {
@@ -92,7 +99,9 @@ fn unit_at(alloc: Global, fields: UnitFields<'_>) -> Result<TypedUnit, UnitRefus
         callees: List::from_vec(fields.callees),
     };
     let offsets = fields.callee_offsets;
-    let tested = check_instrs(alloc, &instrs, &shape, &offsets, base)?;
+    let added = fields.added;
+    let at = fields.added_offset;
+    let tested = check_instrs(alloc, &instrs, &shape, &offsets, base, &added, at)?;
     let (contracts, kinds) = tested;
     let unit = Unit {
         name: List::from_vec(Vec::from_slice(alloc, fields.name)?),
@@ -102,7 +111,7 @@ fn unit_at(alloc: Global, fields: UnitFields<'_>) -> Result<TypedUnit, UnitRefus
         max_stack: fields.max_stack,
         callees: shape.callees,
         code: List::from_vec(Vec::from_slice(alloc, fields.code)?),
-        clauses: contracts.clauses,
+        clauses: with_added(contracts.clauses, added)?,
         body_start: contracts.body_start,
         instrs: List::from_vec(instrs),
     };
@@ -127,7 +136,7 @@ fn read_known(alloc: Global, bytes: &[u8]) -> Result<TypedUnit, UnitRefusal>
     read_first(alloc, bytes)
 }
 
-/// The unit that the bytes of a file spell in one of the two forms, with the kinds of its code, or the first fault of
+/// The unit that the bytes of a file spell in one of the forms, with the kinds of its code, or the first fault of
 /// the file.
 ///
 /// Cost: linear in the length of the file, but for the passes that find kinds, the sorting of the blocks and the walk

@@ -22,7 +22,8 @@ exact_gap rows s t = greater_gap (stored rows s t) (greatest_sum rows (rows_from
 unfoldable pub gap : List BoundRow → ℕ → ℕ → Option ℤ
 gap rows s t = if s == t then Some (pos 0) else option_and_then cut (exact_gap rows s t)
 
--- The gap of two symbols where their ranges lie so far apart: from the greatest number of the first to the least of the second.
+-- The gap of two symbols where their ranges lie so far apart: from the greatest number of the first to the least of the
+-- second.
 unfoldable pub gap_with : List BoundRow → ℤ → ℕ → ℕ → Option ℤ
 gap_with rows between s t = if s == t then Some (pos 0) else option_and_then cut (greater_gap (exact_gap rows s t) (Some between))
 

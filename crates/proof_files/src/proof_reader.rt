@@ -73,9 +73,9 @@ fn read_all(alloc: Global, bytes: &[u8]) -> Result<Vec<ProofEntry>, ProofRefusal
 ///
 /// The first fault of the bytes. `Large`: there are more than 67,108,864. `Version`: they begin with another line than
 /// the first one of a proof file. `Form`: the text that begins there, up to the next line `end`, is not that of a unit
-/// in the second form and of an invariant of its shape, or a unit of the same bytes stands before it. Where text
-/// without such a line is left behind the last entry, `Form` names the end of the file. `NoMemory` where memory runs
-/// out.
+/// in the second or the third form and of an invariant of its shape, or a unit of the same bytes stands before it.
+/// Where text without such a line is left behind the last entry, `Form` names the end of the file. `NoMemory` where
+/// memory runs out.
 ///
 /// Cost: linear in the number of bytes, but for what it costs to read units and to find their graphs. No number of the
 /// text takes memory. The bytes of units are held beside the entries until the last is read.

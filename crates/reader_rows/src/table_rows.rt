@@ -148,8 +148,8 @@ fn width(kind: u8, heap_sizes: u8) -> u32
     if heap_sizes & bit == 0 { 2 } else { 4 }
 }
 
-/// The metadata of these heap sizes, with one row in each table. From the first row on, each byte is the low byte of its
-/// own offset.
+/// The metadata of these heap sizes, with one row in each table. From the first row on, each byte is the low byte of
+/// its own offset.
 fn metadata(
     rt: &impl Abort,
     alloc: Global,

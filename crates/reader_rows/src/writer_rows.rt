@@ -1,4 +1,5 @@
-//! Methods and externs at the limits of the writer, and one past; a file of so many methods that indexes have four bytes.
+//! Methods and externs at the limits of the writer, and one past; a file of so many methods that indexes have four
+//! bytes.
 
 use asm_image::{Assembly, MethodRow};
 use asm_writer::{AsmPlan, Extern, MethodPlan, WriteRefusal, write_assembly, write_linked};

@@ -12,14 +12,14 @@ use Rattle.cc_base.proofs.ByteLemmas.{length-little_bytes}
 use Rattle.cc_base.proofs.TestLemmas.{first_of-append_none, first_of-none, first_of-nil, must_hold}
 use Rattle.invariant_codec.proofs.Stands.{after, lies, number_read}
 use Rattle.invariant_codec.specs.Invariants.{first_states_fault, IsInvariant}
-use Rattle.unit_form.specs.Forms.{form_of, is_form_number}
-use Rattle.unit_form.specs.declared.form.UnitForm.{UnitForm}
-use Rattle.unit_form.specs.declared.form.UnitForm.TheVariants.{First, Second}
+use Rattle.result_cache.specs.Forms.{form_of, is_form_number, magic}
+use Rattle.result_cache.specs.declared.cache_form.CacheForm.{CacheForm}
+use Rattle.result_cache.specs.declared.cache_form.CacheForm.TheVariants.{First, Second}
 use Rattle.result_cache.specs.CacheFile.{counted_entries, entries_standing, entry_field, fault_inside, first_cache_fault, invariant_field, key_field, magic_tests}
 use Rattle.result_cache.specs.Entries.{AreEntriesBehind, Entry, is_among, keys_of}
 use Rattle.invariant_codec.specs.Parses.{many}
 use Rattle.result_cache.specs.Parses.{Parse, field, sized_field}
-use Rattle.result_cache.specs.Spelling.{entry_bytes, file_bytes, IsCacheFile, magic, sized_bytes}
+use Rattle.result_cache.specs.Spelling.{entry_bytes, file_bytes, IsCacheFile, sized_bytes}
 use Rattle.result_cache.specs.declared.cache_fault.CacheFault.{CacheFault}
 use Rattle.result_cache.specs.declared.cache_fault.CacheFault.TheVariants.{Form}
 
@@ -113,7 +113,7 @@ many_again bytes before (e ∷ es) at rest short are low there =
 
 -- ---- the file
 
-magic_again : (form : UnitForm) (bytes rest : List ℕ) → bytes ≡ magic form ++ rest → first_of (magic_tests bytes) ≡ None
+magic_again : (form : CacheForm) (bytes rest : List ℕ) → bytes ≡ magic form ++ rest → first_of (magic_tests bytes) ≡ None
 unfolding magic_tests
 magic_again First bytes rest there =
     let long : 4 ≤ length bytes = omega (arith, lies bytes 0 (magic First) rest there (omega arith)) in
@@ -126,12 +126,12 @@ magic_again Second bytes rest there =
     (test_before (slice_index bytes 0 == 67) _ _ (rw there refl) (test_before (slice_index bytes 1 == 67) _ _ (rw there refl)
     (test_before (slice_index bytes 2 == 75) _ _ (rw there refl) (one_test (is_form_number (slice_index bytes 3)) _ (rw there refl)))))
 
-form_again : (form : UnitForm) (bytes rest : List ℕ) → bytes ≡ magic form ++ rest → form_of bytes ≡ form
+form_again : (form : CacheForm) (bytes rest : List ℕ) → bytes ≡ magic form ++ rest → form_of bytes ≡ form
 unfolding form_of
 form_again First bytes rest there = rw there refl
 form_again Second bytes rest there = rw there refl
 
-behind_magic : (form : UnitForm) (rest : List ℕ) → drop 4 (magic form ++ rest) ≡ rest
+behind_magic : (form : CacheForm) (rest : List ℕ) → drop 4 (magic form ++ rest) ≡ rest
 behind_magic First rest = refl
 behind_magic Second rest = refl
 
@@ -182,12 +182,12 @@ counted_again bytes entries short are there =
       value = its.value;
     }
 
-pub record FileAgain (form : UnitForm) (entries : List Entry) (bytes : List ℕ) : Type 0 where
+pub record FileAgain (form : CacheForm) (entries : List Entry) (bytes : List ℕ) : Type 0 where
   pub passed : first_cache_fault bytes ≡ None
   pub value : entries_standing bytes ≡ entries
   pub form_is : form_of bytes ≡ form
 
-pub file_again : (form : UnitForm) (entries : List Entry) (bytes : List ℕ) → IsCacheFile form entries bytes
+pub file_again : (form : CacheForm) (entries : List Entry) (bytes : List ℕ) → IsCacheFile form entries bytes
     → FileAgain form entries bytes
 unfolding first_cache_fault file_bytes
 file_again form entries bytes is =

@@ -6,9 +6,9 @@ use Rattle.cc_base.specs.LittleEndian.{IsBytes}
 use Rattle.cc_base.specs.Tests.{GivesOnly, JudgesOrNoMemory}
 use Rattle.cc_base.specs.declared.refusal.Refusal.{Refusal}
 use Rattle.cc_base.specs.declared.refusal.Refusal.TheVariants.{Bad, NoMemory}
-use Rattle.unit_form.specs.Forms.{form_of}
-use Rattle.unit_form.specs.declared.form.UnitForm.{UnitForm}
-use Rattle.unit_form.specs.declared.form.UnitForm.TheVariants.{First, Second}
+use Rattle.result_cache.specs.Forms.{form_of}
+use Rattle.result_cache.specs.declared.cache_form.CacheForm.{CacheForm}
+use Rattle.result_cache.specs.declared.cache_form.CacheForm.TheVariants.{First, Second}
 use Rattle.result_cache.specs.CacheFile.{entries_of, entries_standing, first_cache_fault}
 use Rattle.result_cache.specs.Entries.{Entry}
 use Rattle.result_cache.specs.FirstForm.{AreFirst, entries_told, second_entry}
@@ -23,7 +23,7 @@ pub firsts_told : (bytes : List ℕ) (standing cache : List Entry) → First ≡
     → cache ≡ filter_map second_entry standing → AreFirst standing → IsCacheOf bytes cache
 unfolding entries_of
 firsts_told bytes standing cache form stands is first = record {
-  same = is ∙ ap (filter_map second_entry) stands ∙ ap (λ (f : UnitForm). entries_told f (entries_standing bytes)) form;
+  same = is ∙ ap (filter_map second_entry) stands ∙ ap (λ (f : CacheForm). entries_told f (entries_standing bytes)) form;
   firsts = λ _. subst AreFirst stands first;
 }
 
@@ -34,7 +34,7 @@ pub seconds_told : (bytes : List ℕ) (cache : List Entry) → Second ≡ form_o
     → IsCacheOf bytes cache
 unfolding entries_of
 seconds_told bytes cache form is = record {
-  same = is ∙ ap (λ (f : UnitForm). entries_told f (entries_standing bytes)) form;
+  same = is ∙ ap (λ (f : CacheForm). entries_told f (entries_standing bytes)) form;
   firsts = λ first. second_is_not_first (form ∙ first);
 }
 
@@ -51,13 +51,13 @@ read_spelled bytes (Ok cache) fits judged = record {
 read_spelled bytes (Err refusal) fits judged = tt
 
 -- A file of entries is read.
-pub read_only : (bytes : List ℕ) (answer : Result (List Entry) (Refusal CacheFault)) (form : UnitForm) (entries : List Entry)
+pub read_only : (bytes : List ℕ) (answer : Result (List Entry) (Refusal CacheFault)) (form : CacheForm) (entries : List Entry)
     → IsCacheFile form entries bytes → JudgesOrNoMemory answer (first_cache_fault bytes) (IsCacheOf bytes)
     → GivesOnly answer (λ cache. cache ≡ entries_told form entries)
 unfolding entries_of
 read_only bytes (Ok cache) form entries is judged =
     let again = file_again form entries bytes is in
-    judged.1.same ∙ ap₂ (λ (f : UnitForm) (es : List Entry). entries_told f es) again.form_is again.value
+    judged.1.same ∙ ap₂ (λ (f : CacheForm) (es : List Entry). entries_told f es) again.form_is again.value
 read_only bytes (Err (Bad fault)) form entries is judged =
     none-some fault (sym (file_again form entries bytes is).passed ∙ judged)
 read_only bytes (Err NoMemory) form entries is judged = tt

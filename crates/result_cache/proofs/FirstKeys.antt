@@ -16,7 +16,7 @@ use Rattle.method_unit.specs.declared.unit_fault.UnitFault.{UnitFault}
 use Rattle.method_unit.proofs.UnitAgain.{one_unit, spelled_again}
 use Rattle.unit_form.specs.Spelling.{HasCounts, IsSpelledBy, unit_bytes, unit_spelling}
 use Rattle.unit_form.specs.declared.form.UnitForm.{UnitForm}
-use Rattle.unit_form.specs.declared.form.UnitForm.TheVariants.{First, Second}
+use Rattle.unit_form.specs.declared.form.UnitForm.TheVariants.{First, Second, Third}
 use Rattle.result_cache.specs.Entries.{AreEntries, AreEntriesBehind, Entry, is_among, keys_of, with_entry}
 use Rattle.result_cache.specs.FirstForm.{AreFirst, has_first_number, IsFirstOf, second_entry, second_key}
 use Rattle.result_cache.proofs.HeldLemmas.{put_last, take_next}
@@ -52,6 +52,10 @@ second_number : (unit : MethodUnit) → has_first_number (unit_spelling Second u
 unfolding unit_spelling
 second_number unit = refl
 
+third_number : (unit : MethodUnit) → has_first_number (unit_spelling Third unit) ≡ false
+unfolding unit_spelling
+third_number unit = refl
+
 first_number : (unit : MethodUnit) → has_first_number (unit_spelling First unit) ≡ true
 unfolding unit_spelling
 first_number unit = refl
@@ -62,6 +66,8 @@ first_in First bytes unit number is counts same =
     record { unit = unit; is_unit = is; counts = counts; spelled = same; kept = refl }
 first_in Second bytes unit number is counts same =
     absurd (let wrong : false ≡ true = sym (second_number unit) ∙ ap has_first_number same ∙ number in cc)
+first_in Third bytes unit number is counts same =
+    absurd (let wrong : false ≡ true = sym (third_number unit) ∙ ap has_first_number same ∙ number in cc)
 
 -- A unit in the first form stands for its key.
 pub record Kept (bytes key : List ℕ) : Type 0 where

@@ -4,12 +4,13 @@ use Rattle.std.specs.Prelude.{IfOk}
 use Rattle.std.specs.List.{AllByRecursion, cons_option, flat_map}
 use Rattle.std.proofs.lemmas.List.Concat.{flat_map-cons}
 use Rattle.byteorder.specs.Endian.{little_bytes}
-use Rattle.unit_form.specs.declared.form.UnitForm.{UnitForm}
-use Rattle.unit_form.specs.declared.form.UnitForm.TheVariants.{First, Second}
+use Rattle.result_cache.specs.declared.cache_form.CacheForm.{CacheForm}
+use Rattle.result_cache.specs.declared.cache_form.CacheForm.TheVariants.{First, Second}
 use Rattle.result_cache.proofs.KeptLemmas.{entry_length}
 use Rattle.result_cache.specs.Entries.{AreShort, Entry}
 use Rattle.result_cache.specs.FirstForm.{entries_told, second_entry, second_key}
-use Rattle.result_cache.specs.Spelling.{IsFileOf, entry_bytes, file_bytes, magic}
+use Rattle.result_cache.specs.Forms.{magic}
+use Rattle.result_cache.specs.Spelling.{IsFileOf, entry_bytes, file_bytes}
 
 each_short : (most : ℕ) (entries : List Entry) → length (flat_map entry_bytes entries) ≤ most
     → AllByRecursion (λ e. length e.1 ≤ most) entries
@@ -30,7 +31,7 @@ seconds_short (e ∷ es) short = by (second_key e.0) (seconds_short es short.1)
     by None later = later
     by (Some key) later = (short.0, later)
 
-told_short : (form : UnitForm) (entries : List Entry) → AreShort entries → AreShort (entries_told form entries)
+told_short : (form : CacheForm) (entries : List Entry) → AreShort entries → AreShort (entries_told form entries)
 told_short First entries short = seconds_short entries short
 told_short Second entries short = short
 

@@ -11,12 +11,12 @@ use Rattle.cc_base.specs.Tests.{first_of, must}
 use Rattle.cc_base.proofs.TestLemmas.{none_before, none_behind, none_here, must_hold}
 use Rattle.invariant_codec.proofs.Stands.{byte_stands, number_stands}
 use Rattle.invariant_codec.specs.Invariants.{first_states_fault, IsInvariant}
-use Rattle.unit_form.specs.Forms.{form_numbered, form_of, is_form_number}
+use Rattle.result_cache.specs.Forms.{form_numbered, form_of, is_form_number, magic}
 use Rattle.result_cache.specs.CacheFile.{counted_entries, entries_standing, entry_field, fault_inside, first_cache_fault, invariant_field, key_field, magic_tests, MAX_CACHE_BYTES}
 use Rattle.result_cache.specs.Entries.{AreEntriesBehind, Entry, is_among, keys_of}
 use Rattle.invariant_codec.specs.Parses.{many}
 use Rattle.result_cache.specs.Parses.{field, sized_field}
-use Rattle.result_cache.specs.Spelling.{entry_bytes, file_bytes, IsCacheFile, magic, sized_bytes}
+use Rattle.result_cache.specs.Spelling.{entry_bytes, file_bytes, IsCacheFile, sized_bytes}
 use Rattle.result_cache.specs.declared.cache_fault.CacheFault.{CacheFault}
 use Rattle.result_cache.specs.declared.cache_fault.CacheFault.TheVariants.{Form, Large, Version}
 

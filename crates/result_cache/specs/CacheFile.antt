@@ -4,9 +4,9 @@ use Rattle.cc_base.specs.LittleEndian.{u32_at}
 use Rattle.cc_base.specs.Tests.{first_of, must}
 use Rattle.invariant_codec.specs.Invariants.{fault_at, first_states_fault}
 use Rattle.invariant_codec.specs.declared.fault.InvFault.{InvFault}
-use Rattle.unit_form.specs.Forms.{form_of, is_form_number}
 use Rattle.result_cache.specs.Entries.{Entry, is_among, keys_of}
 use Rattle.result_cache.specs.FirstForm.{entries_told}
+use Rattle.result_cache.specs.Forms.{form_of, is_form_number}
 use Rattle.invariant_codec.specs.Parses.{many}
 use Rattle.result_cache.specs.Parses.{Parse, field, sized_field}
 use Rattle.result_cache.specs.declared.cache_fault.CacheFault.{CacheFault}
@@ -82,6 +82,6 @@ first_cache_fault bytes =
 abbrev pub entries_standing : List ℕ → List Entry
 entries_standing bytes = (counted_entries bytes).value
 
--- The entries of such a file, with keys of the second form.
+-- The entries of such a file, with the keys of a file of the second form.
 unfoldable pub entries_of : List ℕ → List Entry
 entries_of bytes = entries_told (form_of bytes) (entries_standing bytes)

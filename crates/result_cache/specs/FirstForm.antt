@@ -6,9 +6,10 @@ use Rattle.cil_model.specs.declared.unit.Unit.{Unit as MethodUnit}
 use Rattle.method_unit.specs.UnitFile.{first_unit_fault, unit_of}
 use Rattle.method_unit.specs.Units.{IsUnit}
 use Rattle.unit_form.specs.Spelling.{HasCounts, unit_bytes, unit_spelling}
-use Rattle.unit_form.specs.declared.form.UnitForm.{UnitForm}
-use Rattle.unit_form.specs.declared.form.UnitForm.TheVariants.{First, Second}
+use Rattle.unit_form.specs.declared.form.UnitForm.TheVariants.{First as UnitFirst}
 use Rattle.result_cache.specs.Entries.{Entry}
+use Rattle.result_cache.specs.declared.cache_form.CacheForm.{CacheForm}
+use Rattle.result_cache.specs.declared.cache_form.CacheForm.TheVariants.{First, Second}
 
 -- Some bytes of the first form of a unit file have a fourth byte that is the digit 1.
 abbrev pub has_first_number : List ℕ → Bool
@@ -22,7 +23,7 @@ second_key bytes =
 abbrev pub second_entry : Entry → Option Entry
 second_entry (key, invariant) = option_map (λ second. (second, invariant)) (second_key key)
 
-abbrev pub entries_told : UnitForm → List Entry → List Entry
+abbrev pub entries_told : CacheForm → List Entry → List Entry
 entries_told First entries = filter_map second_entry entries
 entries_told Second entries = entries
 
@@ -30,8 +31,8 @@ entries_told Second entries = entries
 pub record IsFirstOf (bytes key : List ℕ) : Type 0 where
   pub unit : MethodUnit
   pub is_unit : IsUnit unit
-  pub counts : HasCounts First unit
-  pub spelled : unit_spelling First unit ≡ bytes
+  pub counts : HasCounts UnitFirst unit
+  pub spelled : unit_spelling UnitFirst unit ≡ bytes
   pub kept : unit_bytes unit ≡ key
 
 -- What stands for a key in the second form is the first form of that key's unit.

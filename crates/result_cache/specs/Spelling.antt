@@ -1,13 +1,13 @@
 -- How entries are spelled as a file, and which of them a file that is written has.
-use Rattle.std.specs.Prelude.{◌≡◌, ℕ, ◌+◌, ◌-◌, ◌≤◌, nat_le, List, [], ◌∷◌, ◌++◌, length, codes, if◌then◌else◌}
+use Rattle.std.specs.Prelude.{◌≡◌, ℕ, ◌+◌, ◌-◌, ◌≤◌, nat_le, List, [], ◌∷◌, ◌++◌, length, if◌then◌else◌}
 use Rattle.std.specs.List.{flat_map}
 use Rattle.cc_base.specs.LittleEndian.{little_bytes}
-use Rattle.unit_form.specs.Forms.{form_of}
-use Rattle.unit_form.specs.declared.form.UnitForm.{UnitForm}
-use Rattle.unit_form.specs.declared.form.UnitForm.TheVariants.{First, Second}
 use Rattle.result_cache.specs.CacheFile.{MAX_CACHE_BYTES, entries_of, entries_standing}
 use Rattle.result_cache.specs.Entries.{AreEntries, Entry}
 use Rattle.result_cache.specs.FirstForm.{AreFirst, entries_told}
+use Rattle.result_cache.specs.Forms.{form_of, magic}
+use Rattle.result_cache.specs.declared.cache_form.CacheForm.{CacheForm}
+use Rattle.result_cache.specs.declared.cache_form.CacheForm.TheVariants.{First}
 
 -- Bytes, after their length.
 abbrev pub sized_bytes : List ℕ → List ℕ
@@ -16,23 +16,18 @@ sized_bytes bytes = little_bytes 4 (length bytes) ++ bytes
 unfoldable pub entry_bytes : Entry → List ℕ
 entry_bytes e = sized_bytes e.0 ++ sized_bytes e.1
 
--- The four bytes that a cache file of this form begins with.
-abbrev pub magic : UnitForm → List ℕ
-magic First = codes "CCK1"
-magic Second = codes "CCK2"
-
-unfoldable pub file_bytes : UnitForm → List Entry → List ℕ
+unfoldable pub file_bytes : CacheForm → List Entry → List ℕ
 file_bytes form entries = magic form ++ (little_bytes 4 (length entries) ++ flat_map entry_bytes entries)
 
 -- The bytes are the file of these entries in this form.
-pub record IsCacheFile (form : UnitForm) (entries : List Entry) (bytes : List ℕ) : Type 0 where
+pub record IsCacheFile (form : CacheForm) (entries : List Entry) (bytes : List ℕ) : Type 0 where
   pub are : AreEntries entries
   pub size : length bytes ≤ MAX_CACHE_BYTES
   pub same : file_bytes form entries ≡ bytes
 
 -- They are such a file, of entries that stand for these.
 pub record IsFileOf (cache : List Entry) (bytes : List ℕ) : Type 0 where
-  pub form : UnitForm
+  pub form : CacheForm
   pub entries : List Entry
   pub file : IsCacheFile form entries bytes
   pub told : entries_told form entries ≡ cache

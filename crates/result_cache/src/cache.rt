@@ -4,7 +4,7 @@ ghost use Rattle.std.specs.Prelude.{◌≡◌, ◌++◌, [], ◌∷◌, false, l
 ghost use Rattle.invariant_codec.specs.Invariants.{IsInvariant};
 ghost use Rattle.result_cache.specs.Entries.{invariant_of, is_among, keys_of, with_entry};
 ghost use Rattle.result_cache.specs.Spelling.{file_bytes, IsCacheFile, kept};
-ghost use Rattle.unit_form.specs.declared.form.UnitForm.TheVariants.{Second};
+ghost use Rattle.result_cache.specs.declared.cache_form.CacheForm.TheVariants.{Second};
 
 use crate::cache_writer::{Entries, cache_bytes};
 use cc_base::NoMemory;
@@ -12,8 +12,8 @@ use indexmap::IndexMap;
 use std::alloc::Global;
 use std::marker::Model;
 
-/// The invariants of units, each as its bytes under the whole bytes of its unit. Contracts see these pairs, in the order
-/// in which the keys came.
+/// The invariants of units, each as its bytes under the whole bytes of its unit. Contracts see these pairs, in the
+/// order in which the keys came.
 #[derive(Drop)]
 pub struct Cache {
     invariants: IndexMap<Vec<u8>, Vec<u8>>,
@@ -100,8 +100,8 @@ impl Cache {
         self.invariants.len()
     }
 
-    /// The file of the second form that has these entries, up to the first with which it would have more than 67,108,864
-    /// bytes.
+    /// The file of the second form that has these entries, up to the first with which it would have more than
+    /// 67,108,864 bytes.
     ///
     /// # Errors
     ///

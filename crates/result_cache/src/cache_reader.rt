@@ -4,22 +4,23 @@ ghost use Rattle.std.specs.Prelude.{◌≡◌, ◌≤◌, List, length, Some, If
 ghost use Rattle.cc_base.specs.Tests.{first_of, GivesOnly, JudgesOrNoMemory};
 ghost use Rattle.cil_model.specs.declared.unit.Unit.{Unit as MethodUnit};
 ghost use Rattle.method_unit.specs.Units.{IsUnit};
-ghost use Rattle.unit_form.specs.Forms.{form_of};
 ghost use Rattle.unit_form.specs.Spelling.{HasCounts, unit_bytes, unit_spelling};
-ghost use Rattle.unit_form.specs.declared.form.UnitForm.{UnitForm as Form};
-ghost use Rattle.unit_form.specs.declared.form.UnitForm.TheVariants.{First};
+ghost use Rattle.unit_form.specs.declared.form.UnitForm.TheVariants.{First as UnitFirst};
 ghost use Rattle.result_cache.specs.CacheFile.{counted_entries, entries_of, entries_standing, first_cache_fault};
 ghost use Rattle.result_cache.specs.Entries.{AreShort, Entry};
 ghost use Rattle.result_cache.specs.FirstForm.{AreFirst, entries_told, second_key};
+ghost use Rattle.result_cache.specs.Forms.{form_of};
 ghost use Rattle.result_cache.specs.Spelling.{IsCacheFile, IsCacheOf, IsFileOf};
+ghost use Rattle.result_cache.specs.declared.cache_form.CacheForm.{CacheForm as Form};
+ghost use Rattle.result_cache.specs.declared.cache_form.CacheForm.TheVariants.{First};
 
 use crate::cache::Cache;
 use crate::cache_fault::{CacheFault, CacheRefusal};
+use crate::cache_form::CacheForm;
 use crate::entry_reader::read_each;
 use crate::fields::{read_magic, read_u32};
 use crate::first_form::second_form;
 use std::alloc::Global;
-use unit_form::UnitForm;
 
 /// The most bytes of a cache file.
 pub const MAX_CACHE_BYTES: usize = 67_108_864;
@@ -41,7 +42,7 @@ fn read_counted(alloc: Global, bytes: &[u8]) -> Result<Cache, CacheRefusal>
 
 /// The form of a file, and the entries as they stand in it.
 #[tactic(auto, using(cc_base::proofs::TestLemmas::appended, cc_base::proofs::TestLemmas::first_tests, cc_base::proofs::TestLemmas::carried), unfolding(crate::specs::CacheFile::first_cache_fault))]
-fn read_standing(alloc: Global, bytes: &[u8]) -> Result<(UnitForm, Cache), CacheRefusal>
+fn read_standing(alloc: Global, bytes: &[u8]) -> Result<(CacheForm, Cache), CacheRefusal>
     ensures { JudgesOrNoMemory result (first_cache_fault bytes.now)
         (λ read. (read.0 ≡ form_of bytes.now) × (read.1 ≡ entries_standing bytes.now)) }
 {
@@ -60,8 +61,8 @@ fn read_told(alloc: Global, bytes: &[u8]) -> Result<Cache, CacheRefusal>
 {
     let (form, cache) = read_standing(alloc, bytes)?;
     match form {
-        UnitForm::First => Ok(second_form(alloc, &cache)?),
-        UnitForm::Second => Ok(cache),
+        CacheForm::First => Ok(second_form(alloc, &cache)?),
+        CacheForm::Second => Ok(cache),
     }
 }
 
@@ -84,8 +85,8 @@ impl Cache {
         ensures only { (form : Form) (entries : List Entry) → IsCacheFile form entries bytes.now → GivesOnly result
             (λ cache. cache ≡ entries_told form entries) }
         // The first form of a unit stands for its key in the second form, and nothing else does.
-        ensures first { (unit : MethodUnit) → IsUnit unit → HasCounts First unit →
-            second_key (unit_spelling First unit) ≡ Some (unit_bytes unit) }
+        ensures first { (unit : MethodUnit) → IsUnit unit → HasCounts UnitFirst unit →
+            second_key (unit_spelling UnitFirst unit) ≡ Some (unit_bytes unit) }
         // Each invariant is short enough to be read.
         ensures short { IfOk result AreShort }
         ensures firsts { IfOk result (λ _. form_of bytes.now ≡ First → AreFirst (entries_standing bytes.now)) }

@@ -4,7 +4,7 @@ ghost use Rattle.std.specs.Prelude.{◌≡◌, ◌++◌, ◌-◌, ◌≤◌, Lis
 ghost use Rattle.std.specs.List.{flat_map};
 ghost use Rattle.result_cache.specs.Entries.{AreEntries, Entry};
 ghost use Rattle.result_cache.specs.Spelling.{entry_bytes, entry_size, file_bytes, IsCacheFile, kept, kept_within, sized_bytes};
-ghost use Rattle.unit_form.specs.declared.form.UnitForm.TheVariants.{Second};
+ghost use Rattle.result_cache.specs.declared.cache_form.CacheForm.TheVariants.{Second};
 
 use crate::cache_reader::MAX_CACHE_BYTES;
 use cc_base::NoMemory;

@@ -4,12 +4,12 @@ ghost use Rattle.std.specs.Prelude.{◌≡◌, ◌+◌, ◌≤◌, length};
 ghost use Rattle.cc_base.specs.LittleEndian.{u32_at};
 ghost use Rattle.cc_base.specs.Tests.{first_of, Judges};
 ghost use Rattle.result_cache.specs.CacheFile.{magic_tests};
+ghost use Rattle.result_cache.specs.Forms.{form_of};
 ghost use Rattle.invariant_codec.specs.Parses.{IsRead};
 ghost use Rattle.result_cache.specs.Parses.{field, sized_field};
-ghost use Rattle.unit_form.specs.Forms.{form_of};
 
 use crate::cache_fault::CacheFault;
-use unit_form::UnitForm;
+use crate::cache_form::CacheForm;
 
 /// Tests that a field of this many bytes does not pass the end of the file.
 #[tactic(auto, unfolding(crate::specs::Parses::field))]
@@ -47,8 +47,8 @@ pub fn read_sized(bytes: &[u8], at: u32) -> Result<(&[u8], u32), CacheFault>
 }
 
 /// The form of the file, by its first four bytes, `CCK1` or `CCK2`.
-#[tactic(auto, using(cc_base::proofs::TestLemmas::first_tests), unfolding(crate::specs::CacheFile::magic_tests, unit_form::specs::Forms::form_of))]
-pub fn read_magic(bytes: &[u8]) -> Result<UnitForm, CacheFault>
+#[tactic(auto, using(cc_base::proofs::TestLemmas::first_tests), unfolding(crate::specs::CacheFile::magic_tests, crate::specs::Forms::form_of))]
+pub fn read_magic(bytes: &[u8]) -> Result<CacheForm, CacheFault>
     ensures { Judges result (first_of (magic_tests bytes.now)) (λ form. form ≡ form_of bytes.now) }
 {
     check_field(bytes, 0, 4)?;
@@ -61,7 +61,7 @@ pub fn read_magic(bytes: &[u8]) -> Result<UnitForm, CacheFault>
     if bytes[2] != b'K' {
         return Err(CacheFault::Form(2));
     }
-    match UnitForm::of_number(bytes[3]) {
+    match CacheForm::of_number(bytes[3]) {
         Some(form) => Ok(form),
         None => Err(CacheFault::Version),
     }

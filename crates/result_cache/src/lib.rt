@@ -3,6 +3,7 @@
 
 mod cache;
 mod cache_fault;
+mod cache_form;
 mod cache_reader;
 mod cache_writer;
 mod entry_reader;
@@ -11,4 +12,5 @@ mod first_form;
 
 pub use cache::Cache;
 pub use cache_fault::{CacheFault, CacheRefusal};
+pub use cache_form::CacheForm;
 pub use cache_writer::{Entries, cache_bytes};

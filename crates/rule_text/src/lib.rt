@@ -1,6 +1,6 @@
 //! The text of cases for single rules: numbers, ranges, symbols and references, definitions, facts and segments; the
-//! names of operators, types and faults; the tests of what a rule on numbers asks of its caller; and the run of files of
-//! cases.
+//! names of operators, types and faults; the tests of what a rule on numbers asks of its caller; and the run of files
+//! of cases.
 //!
 //! A *number* is `7`, or `s2`, `s2+7` or `s2-7` of symbol 2. A *range* is `0..9`, or `0..9!5` without 5, or `int32`. An
 //! *operand* is a number, or a range in its place: that is a new symbol of this range, as in `0..9`, and `(0..9)+3` the

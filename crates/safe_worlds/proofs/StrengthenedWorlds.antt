@@ -1,5 +1,5 @@
--- A strengthened world takes the steps of the world as written until it faults. So where it is safe, that one is; and where
--- the units as written agree, the strengthened ones do.
+-- A strengthened world takes the steps of the world as written until it faults. So where it is safe, that one is; and
+-- where the units as written agree, the strengthened ones do.
 use Rattle.std.proofs.Common.{◌≡◌, ◌⊎◌, ℕ, zero, suc, ◌+◌, Bool, true, false, cond, if◌then◌else◌, List, [], ◌∷◌, ◌++◌, length, map, get_or, Option, Some, None, option_map, slice_get, refl, sym, ap, subst, ◌∙◌, arith, append-nil, inl, inr}
 use Rattle.std.specs.List.{AllByRecursion, enumerate_from}
 use Rattle.std.proofs.lemmas.List.{length-map}

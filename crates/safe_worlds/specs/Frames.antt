@@ -11,7 +11,8 @@ use Rattle.safe_worlds.specs.declared.entry.Entry.{Entry}
 abbrev pub entry_of : Frame → Entry
 entry_of f = record { unit = f.unit; args = f.entry_args; heap = f.entry_heap }
 
--- A value that a frame of this entry can come to: it names no array, or one that was passed, or one that was made since.
+-- A value that a frame of this entry can come to: it names no array, or one that was passed, or one that was made
+-- since.
 abbrev pub IsInReach : Entry → Value → Type 0
 IsInReach entry v = IsPassedOrNew entry.heap entry.args (Some v)
 

@@ -1,5 +1,5 @@
--- Strengthened worlds: further clauses stand after those of each unit, and the same after those of each entry that tells of
--- it. All else is as it was written.
+-- Strengthened worlds: further clauses stand after those of each unit, and the same after those of each entry that
+-- tells of it. All else is as it was written.
 use Rattle.std.specs.Prelude.{◌≡◌, ◌⊎◌, ℕ, ◌+◌, List, [], ◌∷◌, ◌++◌, map, get_or}
 use Rattle.std.specs.List.{AllByRecursion, enumerate_from}
 use Rattle.cil_model.specs.Runs.{IsNoFault, Runs, Step, StepsTo}
@@ -42,7 +42,8 @@ strengthened unit own of_callees = record unit { clauses = unit.clauses ++ own; 
 abbrev pub added_to : List (List Clause) → ℕ → List Clause
 added_to added index = get_or added index []
 
--- The unit of this index in a world: it gains its own clauses, and what is known of each callee gains those of the callee.
+-- The unit of this index in a world: it gains its own clauses, and what is known of each callee gains those of the
+-- callee.
 abbrev pub strengthened_in : List (List Clause) → World → ℕ → MethodUnit → MethodUnit
 strengthened_in added w index unit = strengthened unit (added_to added index) (map (added_to added) (get_or w.callee index []))
 
@@ -57,8 +58,8 @@ strengthen_world added w =
 abbrev pub MayFault : World → Config → Type 0
 MayFault w c = (kind : FaultKind) × (unit : ℕ) × (at : ℕ) × Step w c (configs.Fault kind unit at)
 
--- Until a fault, both worlds take the same steps: each step as written is one of the stronger world, which else may fault
--- there; and each step of the stronger world that is no fault is one as written.
+-- Until a fault, both worlds take the same steps: each step as written is one of the stronger world, which else may
+-- fault there; and each step of the stronger world that is no fault is one as written.
 pub record StepAlike (written stronger : World) : Type 0 where
   pub forth : (c new : Config) → Step written c new → Step stronger c new ⊎ MayFault stronger c
   pub back : (c new : Config) → Step stronger c new → IsNoFault new → Step written c new

@@ -38,7 +38,8 @@ named_later known later u (by_more more is) there =
 
 -- ---- the loop
 
--- The uses that are known, with those that are left, are all uses; the names that were given, with those of what is left, are all names.
+-- The uses that are known, with those that are left, are all uses; the names that were given, with those of what is
+-- left, are all names.
 pub record PairsSoFar (a b : List Expr) (i : ℕ) (known : List Key) (exprs : List Expr) : Type 0 where
   pub known_so_far : first_uses same_key (origin ∷ known) (drop i (uses_of a b)) ≡ known_in a b
   pub named_so_far : exprs ++ map (named (known_in a b)) (drop i (uses_of a b)) ≡ map (named (known_in a b)) (uses_of a b)

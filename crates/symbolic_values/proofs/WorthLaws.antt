@@ -78,8 +78,8 @@ uses_worth false number (e ∷ a) (f ∷ b) same =
     ap (λ z. z ∷ map (worth_of_use false number) (uses_of a b)) (second_worth (number f.sym) e.k f.k)
     ∙ ap (λ zs. worth number f ∷ zs) (uses_worth false number a b (omega (arith, same)))
 
--- Each new expression of two paired lists is worth, under the choice behind the keys, what the expression that it stands for is
--- worth on that side.
+-- Each new expression of two paired lists is worth, under the choice behind the keys, what the expression that it
+-- stands for is worth on that side.
 pub paired_worth : (is_first : Bool) (number : ℕ → ℤ) (a b : List Expr) → length a ≡ length b
     → map (worth (behind_uses is_first number (origin ∷ (paired a b).keys))) (paired a b).exprs ≡ map (worth number) (if is_first then a else b)
 paired_worth is_first number a b same =

@@ -60,7 +60,8 @@ abbrev pub behind_first : List Key → List Key
 behind_first [] = []
 behind_first (u ∷ us) = us
 
--- The pairing of two lists: the keys of their uses, but for that of equal constants, and a name for each two expressions.
+-- The pairing of two lists: the keys of their uses, but for that of equal constants, and a name for each two
+-- expressions.
 abbrev pub paired : List Expr → List Expr → Pairing
 paired a b = record { keys = behind_first (known_in a b); exprs = map (named (known_in a b)) (uses_of a b) }
 

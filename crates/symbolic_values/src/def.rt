@@ -2,8 +2,8 @@
 
 use domain_api::Expr;
 
-/// The value that a symbol is known to have. All but the difference are truths: the symbol is 1 where they hold, and else
-/// 0.
+/// The value that a symbol is known to have. All but the difference are truths: the symbol is 1 where they hold, and
+/// else 0.
 #[derive(Clone, Copy, Debug, PartialEq, Eq)]
 pub enum Def {
     /// The two are equal.

@@ -288,12 +288,11 @@ pub spent_callees : (s : Scope) (method : MethodRow) (code : MethodCode) → IsS
 spent_callees s method code spent = (whole_told s method (with_instrs spent.taken code) spent.whole).callees
 
 -- Code of a method that is analysed is there, and reads.
-pub analysed_code : (asm : List ℕ) (method : MethodRow) (unit : MethodUnit) → outcome_of asm method ≡ Analysed unit → HasReadCode (scope_of asm) method
-unfolding outcome_of
-analysed_code asm method unit is = read_code (scope_of asm) method (analysed_is (scope_of asm) method unit is).0
+pub analysed_code : (s : Scope) (method : MethodRow) (unit : MethodUnit) → outcome_in s method ≡ Analysed unit → HasReadCode s method
+analysed_code s method unit is = read_code s method (analysed_is s method unit is).0
 
 -- What callers are told of its callees.
-pub tokens_called : (asm : List ℕ) (method : MethodRow) (keys : List ℕ) → keys ≡ callee_keys (scope_of asm) method
+tokens_called : (asm : List ℕ) (method : MethodRow) (keys : List ℕ) → keys ≡ callee_keys (scope_of asm) method
     → map (λ key. as_token (token_in key)) keys ≡ callee_tokens asm method
 unfolding callee_tokens
 tokens_called asm method keys are =
@@ -321,22 +320,45 @@ row_read asm methods index method are lt is =
     slice_get-get_or (methods_of asm) index method lt ∙ ap Some (sym (is ∙ ap (λ rows. get_or rows index method) are))
 
 -- What was told of a row is told of the method.
-pub tokens_told : {E : Type 0} (r : Result (Vec MethodToken Global) E) (asm other : List ℕ) (index : ℕ) (row method : MethodRow) (unit : MethodUnit) → asm ≡ other
-    → slice_get (methods_of asm) index ≡ Some row → slice_get (methods_of other) index ≡ Some method → outcome_of other method ≡ Analysed unit
-    → ((made : MethodUnit) → outcome_of asm row ≡ Analysed made → IfOk r (λ tokens. tokens.items ≡ callee_tokens asm row))
-    → IfOk r (λ tokens. tokens.items ≡ callee_tokens other method)
-tokens_told r asm other index row method unit same row_is method_is analysed told =
-    let rows : row ≡ method = same_Some row method (sym row_is ∙ ap (λ bytes. slice_get (methods_of bytes) index) same ∙ method_is) in
-    let outcome : outcome_of asm row ≡ Analysed unit = ap (outcome_of asm) rows ∙ ap (λ bytes. outcome_of bytes method) same ∙ analysed in
-    subst (λ bytes. IfOk r (λ tokens. tokens.items ≡ callee_tokens bytes method)) same (subst (λ m. IfOk r (λ tokens. tokens.items ≡ callee_tokens asm m)) rows (told unit outcome))
+pub keys_told : {E : Type 0} (r : Result (Vec ℕ Global) E) (s other : Scope) (index : ℕ) (row method : MethodRow) (unit : MethodUnit) → s ≡ other
+    → slice_get (methods_of s.asm) index ≡ Some row → slice_get (methods_of other.asm) index ≡ Some method → outcome_in other method ≡ Analysed unit
+    → ((made : MethodUnit) → outcome_in s row ≡ Analysed made → IfOk r (λ keys. keys.items ≡ callee_keys s row))
+    → IfOk r (λ keys. keys.items ≡ callee_keys other method)
+keys_told r s other index row method unit same row_is method_is analysed told =
+    let rows : row ≡ method = same_Some row method (sym row_is ∙ ap (λ (scope : Scope). slice_get (methods_of scope.asm) index) same ∙ method_is) in
+    let outcome : outcome_in s row ≡ Analysed unit = ap (outcome_in s) rows ∙ ap (λ (scope : Scope). outcome_in scope method) same ∙ analysed in
+    let keys_are : callee_keys s row ≡ callee_keys other method = ap (callee_keys s) rows ∙ ap (λ (scope : Scope). callee_keys scope method) same in
+    subst (λ keys_of. IfOk r (λ keys. keys.items ≡ keys_of)) keys_are (told unit outcome)
 
-pub body_told : {E : Type 0} (r : Result (Vec MethodToken Global) E) (asm : List ℕ) (row method : MethodRow) (unit : MethodUnit) → row ≡ method → outcome_of asm method ≡ Analysed unit
-    → ((made : MethodUnit) → outcome_of asm row ≡ Analysed made → IfOk r (λ tokens. tokens.items ≡ callee_tokens asm row))
+-- The same of a file alone, as tokens.
+row_told : (asm : List ℕ) (row method : MethodRow) (unit : MethodUnit) (keys : List ℕ) → row ≡ method → outcome_of asm method ≡ Analysed unit
+    → ((made : MethodUnit) → outcome_in (scope_of asm) row ≡ Analysed made → keys ≡ callee_keys (scope_of asm) row)
+    → map (λ key. as_token (token_in key)) keys ≡ callee_tokens asm method
+unfolding outcome_of
+row_told asm row method unit keys same analysed told =
+    tokens_called asm row keys (told unit (ap (outcome_in (scope_of asm)) same ∙ analysed)) ∙ ap (callee_tokens asm) same
+
+pub tokens_told : {E : Type 0} (r : Result (Vec MethodToken Global) E) (asm other : List ℕ) (index : ℕ) (row method : MethodRow) (unit : MethodUnit) (keys : List ℕ) → asm ≡ other
+    → slice_get (methods_of asm) index ≡ Some row → slice_get (methods_of other) index ≡ Some method → outcome_of other method ≡ Analysed unit
+    → ((made : MethodUnit) → outcome_in (scope_of asm) row ≡ Analysed made → keys ≡ callee_keys (scope_of asm) row)
+    → IfOk r (λ tokens. tokens.items ≡ map (λ key. as_token (token_in key)) keys)
+    → IfOk r (λ tokens. tokens.items ≡ callee_tokens other method)
+tokens_told r asm other index row method unit keys same row_is method_is analysed told are =
+    let rows : row ≡ method = same_Some row method (sym row_is ∙ ap (λ bytes. slice_get (methods_of bytes) index) same ∙ method_is) in
+    let outcome : outcome_of asm method ≡ Analysed unit = ap (λ bytes. outcome_of bytes method) same ∙ analysed in
+    let tokens_are : map (λ key. as_token (token_in key)) keys ≡ callee_tokens other method =
+    row_told asm row method unit keys rows outcome told ∙ ap (λ bytes. callee_tokens bytes method) same in
+    subst (λ tokens_of. IfOk r (λ tokens. tokens.items ≡ tokens_of)) tokens_are are
+
+pub body_told : {E : Type 0} (r : Result (Vec MethodToken Global) E) (asm : List ℕ) (row method : MethodRow) (unit : MethodUnit) (keys : List ℕ) → row ≡ method
+    → outcome_of asm method ≡ Analysed unit
+    → ((made : MethodUnit) → outcome_in (scope_of asm) row ≡ Analysed made → keys ≡ callee_keys (scope_of asm) row)
+    → IfOk r (λ tokens. tokens.items ≡ map (λ key. as_token (token_in key)) keys)
     → IfOk r (λ tokens. numbers tokens.items ≡ body_calls asm method)
-body_told (Ok tokens) asm row method unit same analysed told =
-    ap numbers (told unit (ap (outcome_of asm) same ∙ analysed) ∙ ap (callee_tokens asm) same) ∙ token_numbers asm method
+body_told (Ok tokens) asm row method unit keys same analysed told are =
+    ap numbers (are ∙ row_told asm row method unit keys same analysed told) ∙ token_numbers asm method
     ∙ ap (calls_by (callee_keys (scope_of asm) method)) (sym analysed)
-body_told (Err error) asm row method unit same analysed told = tt
+body_told (Err error) asm row method unit keys same analysed told are = tt
 
 -- The row of an index is the method.
 pub row_is : (asm : List ℕ) (methods : List MethodRow) (index : ℕ) (row method : MethodRow) → methods ≡ methods_of asm → index ≡ method.token.0 - first_method

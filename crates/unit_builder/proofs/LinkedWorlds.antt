@@ -1,5 +1,5 @@
--- The world of a method of linked files, all of whose reach is analysed: its units agree on what they say of each other,
--- and each of them is the unit of a method that is reached.
+-- The world of a method of linked files, all of whose reach is analysed: its units agree on what they say of each
+-- other, and each of them is the unit of a method that is reached.
 use Rattle.std.proofs.Common.{◌≡◌, ℕ, zero, suc, ◌+◌, ◌-◌, ◌<◌, ◌≤◌, ◌^◌, ◌==◌, ◌&&◌, Bool, true, false, not, cond, List, [], ◌∷◌, ◌++◌, length, map, filter, filter_map, get_or, slice_get, Contains, Option, Some, None, option_map, IsSome, refl, sym, ap, ap₂, subst, ◌∙◌, true≢false, length-append, arith}
 use Rattle.std.specs.Prelude.{nat_eq}
 use Rattle.std.specs.List.{AllByRecursion, flat_map, range_with_len}

@@ -197,7 +197,7 @@ module _ (s : Scope) (method : MethodRow) (unit : MethodUnit) (small : HasSmallN
 
   pub unit_made : first_of (reason_tests s method) ≡ None → IsMade s method unit
   unit_made none =
-      let is_unit : IsUnit (unit_of s method) = record { well_formed = well_formed none; clauses = no_clause_fault none; told = told_are } in
+      let is_unit : IsUnit (unit_of s method) = record { well_formed = well_formed none; clauses = no_clause_fault none } in
       record {
         same = unit_is;
         is_unit = subst IsUnit (sym unit_is) is_unit;

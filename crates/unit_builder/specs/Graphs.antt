@@ -15,7 +15,8 @@ use Rattle.unit_builder.specs.WorldOf.{places_in}
 
 -- ---- calls
 
--- The keys of the methods that are called in the body of a method, in order of first use; none where it is not analysed.
+-- The keys of the methods that are called in the body of a method, in order of first use; none where it is not
+-- analysed.
 abbrev pub calls_of_method : Scope → MethodRow → List ℕ
 calls_of_method scope method = calls_by (callee_keys scope method) (outcome_in scope method)
 

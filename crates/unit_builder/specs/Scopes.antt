@@ -11,7 +11,8 @@ use Rattle.unit_builder.specs.Meanings.{as_token, meaning_of}
 
 -- ---- keys
 
--- The key of a method: its token, above the list index of its file. Where there is one file, keys are tokens.
+-- The key of a method: the list index of its file, above the 32 bits of its token. Where there is one file, keys are
+-- tokens.
 abbrev pub key_at : ℕ → ℕ → ℕ
 key_at file token = file * 2 ^ 32 + token
 

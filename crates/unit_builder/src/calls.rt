@@ -1,14 +1,15 @@
 //! The methods that a method calls.
 
-ghost use Rattle.std.specs.Prelude.{◌≡◌, map, slice_get, Contains, IfOk, Some};
+ghost use Rattle.std.specs.Prelude.{◌≡◌, ◌<◌, map, slice_get, Contains, IfOk, Some};
 ghost use Rattle.asm_image.specs.Rows.{methods_of};
 ghost use Rattle.asm_image.specs.declared.method_row.MethodRow.{MethodRow};
 ghost use Rattle.cil_model.specs.declared.unit.Unit.{Unit as MethodUnit};
-ghost use Rattle.unit_builder.specs.Bodies.{callee_tokens};
+ghost use Rattle.unit_builder.specs.Bodies.{callee_keys};
 ghost use Rattle.unit_builder.specs.Meanings.{as_token};
-ghost use Rattle.unit_builder.specs.Outcomes.{entry_of, outcome_of};
-ghost use Rattle.unit_builder.specs.Scopes.{scope_of, token_in};
-ghost use Rattle.unit_builder.specs.Slots.{AreSlots, IsSlotOf};
+ghost use Rattle.unit_builder.specs.Outcomes.{entry_of, outcome_in};
+ghost use Rattle.unit_builder.specs.Scopes.{token_in};
+ghost use Rattle.unit_builder.specs.Slots.{AreAllSlots, AreSlots, IsSlotOf};
+ghost use Rattle.unit_builder.specs.Sources.{files_of, scope_at};
 ghost use Rattle.unit_builder.specs.Walks.{body_calls, numbers};
 ghost use Rattle.unit_builder.specs.declared.entry.Outcome.TheVariants.{Analysed};
 
@@ -21,7 +22,7 @@ use cc_base::{NoMemory, Token};
 use std::alloc::Global;
 
 /// The tokens of methods by their keys.
-fn tokens_of(alloc: Global, keys: &[u64]) -> Result<Vec<Token>, NoMemory>
+pub(crate) fn tokens_of(alloc: Global, keys: &[u64]) -> Result<Vec<Token>, NoMemory>
     ensures { IfOk result (λ tokens. tokens.items ≡ map (λ key. as_token (token_in key)) keys.now) }
 {
     let mut tokens = Vec::new(alloc);
@@ -31,39 +32,72 @@ fn tokens_of(alloc: Global, keys: &[u64]) -> Result<Vec<Token>, NoMemory>
     Ok(tokens)
 }
 
-/// Returns the methods that the code of a method calls. The code is read where it was not read before.
+/// The keys of the methods that the code of a method calls. The code is read where it was not read before.
 fn callees_in(
     alloc: Global,
-    assembly: &Assembly<'_>,
+    sources: &Sources<'_>,
+    file: u32,
     method: &MethodRow,
     slot: &mut Slot,
-) -> Result<Vec<Token>, NoMemory>
-    requires slot { IsSlotOf (scope_of assembly.now) method.now slot.old }
-    ensures slot { IsSlotOf (scope_of assembly.now) method.now slot.new }
-    ensures value { (unit : MethodUnit) → outcome_of assembly.now method.now ≡ Analysed unit → IfOk result (λ tokens. tokens.items ≡ callee_tokens assembly.now method.now) }
+) -> Result<Vec<u64>, NoMemory>
+    requires file { file < (files_of sources.now).count }
+    requires slot { IsSlotOf (scope_at sources.now file) method.now slot.old }
+    ensures slot { IsSlotOf (scope_at sources.now file) method.now slot.new }
+    ensures value { (unit : MethodUnit) → outcome_in (scope_at sources.now file) method.now ≡ Analysed unit
+        → IfOk result (λ keys. keys.items ≡ callee_keys (scope_at sources.now file) method.now) }
 {
     if !method.has_il_body() {
         return Ok(Vec::new(alloc));
     }
-    slot.read(alloc, &Sources::One(assembly), 0, method)?;
-    tokens_of(alloc, slot.callees())
+    slot.read(alloc, sources, file, method)?;
+    Vec::from_slice(alloc, slot.callees())
 }
 
 /// The same of the method of an index, by the slots of its file.
 #[tactic(auto, using(crate::proofs::SlotLists::slot_set, crate::proofs::SlotLists::slot_there, crate::proofs::SlotLists::slot_within))]
-pub(crate) fn callees_at(
+fn callees_at(
     alloc: Global,
-    assembly: &Assembly<'_>,
+    sources: &Sources<'_>,
+    file: u32,
     method: &MethodRow,
     slots: &mut [Slot],
     index: usize,
-) -> Result<Vec<Token>, NoMemory>
-    requires slots { AreSlots (scope_of assembly.now) slots.old }
-    requires there { slice_get (methods_of assembly.now) index ≡ Some method.now }
-    ensures slots { AreSlots (scope_of assembly.now) slots.new }
-    ensures value { (unit : MethodUnit) → outcome_of assembly.now method.now ≡ Analysed unit → IfOk result (λ tokens. tokens.items ≡ callee_tokens assembly.now method.now) }
+) -> Result<Vec<u64>, NoMemory>
+    requires file { file < (files_of sources.now).count }
+    requires slots { AreSlots (scope_at sources.now file) slots.old }
+    requires there { slice_get (methods_of (scope_at sources.now file).asm) index ≡ Some method.now }
+    ensures slots { AreSlots (scope_at sources.now file) slots.new }
+    ensures value { (unit : MethodUnit) → outcome_in (scope_at sources.now file) method.now ≡ Analysed unit
+        → IfOk result (λ keys. keys.items ≡ callee_keys (scope_at sources.now file) method.now) }
 {
-    callees_in(alloc, assembly, method, &mut slots[index])
+    callees_in(alloc, sources, file, method, &mut slots[index])
+}
+
+/// The same by the slots of all files.
+#[tactic(auto, using(crate::proofs::SlotLists::file_set, crate::proofs::SlotLists::file_there, crate::proofs::SlotLists::file_within))]
+pub(crate) fn callees_of(
+    alloc: Global,
+    sources: &Sources<'_>,
+    file: u32,
+    method: &MethodRow,
+    slots: &mut [Vec<Slot>],
+    index: usize,
+) -> Result<Vec<u64>, NoMemory>
+    requires file { file < (files_of sources.now).count }
+    requires slots { AreAllSlots (files_of sources.now) slots.old }
+    requires there { slice_get (methods_of (scope_at sources.now file).asm) index ≡ Some method.now }
+    ensures slots { AreAllSlots (files_of sources.now) slots.new }
+    ensures value { (unit : MethodUnit) → outcome_in (scope_at sources.now file) method.now ≡ Analysed unit
+        → IfOk result (λ keys. keys.items ≡ callee_keys (scope_at sources.now file) method.now) }
+{
+    callees_at(
+        alloc,
+        sources,
+        file,
+        method,
+        &mut slots[file as usize],
+        index,
+    )
 }
 
 /// The methods that are called in the body of the method of an entry, each once, in order of first use; none where the
@@ -85,5 +119,6 @@ pub fn callee_tokens(
     let Some(method) = assembly.methods().get(index as usize) else {
         return Ok(Vec::new(alloc));
     };
-    callees_in(alloc, assembly, method, &mut Slot::Unread)
+    let keys = callees_in(alloc, &Sources::One(assembly), 0, method, &mut Slot::Unread)?;
+    tokens_of(alloc, &keys)
 }

@@ -4,11 +4,15 @@ ghost use Rattle.std.specs.Prelude.{◌≡◌, ◌<◌, None, length, slice_get,
 ghost use Rattle.asm_image.specs.Faults.{FirstBroken};
 ghost use Rattle.asm_image.specs.Rows.{methods_of};
 ghost use Rattle.asm_image.specs.declared.method_row.MethodRow.{MethodRow};
+ghost use Rattle.cil_model.specs.declared.unit.Unit.{Unit as MethodUnit};
 ghost use Rattle.method_unit.specs.Units.{IsUnit};
+ghost use Rattle.unit_builder.specs.Bodies.{callee_keys};
 ghost use Rattle.unit_builder.specs.FileSets.{Alone, Several, files_in};
 ghost use Rattle.unit_builder.specs.Outcomes.{IfAnalysed, outcome_in};
 ghost use Rattle.unit_builder.specs.Scopes.{scope_in};
+ghost use Rattle.unit_builder.specs.declared.entry.Outcome.TheVariants.{Analysed};
 
+use crate::calls::callees_of;
 use crate::entry::Outcome;
 use crate::linked::all_fresh;
 use crate::slots::Slot;
@@ -22,8 +26,8 @@ use std::marker::Model;
 
 /// The units of files. Contracts see the files.
 ///
-/// The code of a method is read when it is first asked for, be it for its own unit or for that of a caller in any of the
-/// files, and not again as long as each unit is asked for once.
+/// The code of a method is read when it is first asked for, be it for its own unit or for that of a caller in any of
+/// the files, and not again as long as each unit is asked for once.
 #[derive(Drop)]
 pub struct FileUnits<'a> {
     sources: Sources<'a>,
@@ -92,5 +96,23 @@ impl<'a> FileUnits<'a> {
     {
         let method = &self.methods(file)[index];
         outcome_at(alloc, &self.sources, file, &mut self.slots, index, method)
+    }
+
+    /// The keys of the methods that are called in the body of the analysed method of an index in the file of a list
+    /// index, each once, in order of first use. A key is the list index of the file, above the 32 bits of the token. Of
+    /// a method that is not analysed no contract tells what comes.
+    ///
+    /// Cost: what the method's own code takes to be read, where nobody asked for it before; it is then kept for
+    /// `outcome`. The keys are copied.
+    pub fn callees(&mut self, alloc: Global, file: u32, index: usize) -> Result<Vec<u64>, NoMemory>
+        requires file { file < (files_in self.old).count }
+        requires there { index < length (methods_of ((files_in self.old).bytes file)) }
+        ensures same { self.new ≡ self.old }
+        ensures value { (method : MethodRow) (unit : MethodUnit) → slice_get (methods_of ((files_in self.old).bytes file)) index ≡ Some method
+            → outcome_in (scope_in (files_in self.old) file) method ≡ Analysed unit
+            → IfOk result (λ keys. keys.items ≡ callee_keys (scope_in (files_in self.old) file) method) }
+    {
+        let method = &self.methods(file)[index];
+        callees_of(alloc, &self.sources, file, method, &mut self.slots, index)
     }
 }

@@ -1,4 +1,5 @@
-//! The units of an assembly, or of several that are linked: each method with all that its check depends on, or the first reason why it has none.
+//! The units of an assembly, or of several that are linked: each method with all that its check depends on, or the
+//! first reason why it has none.
 #![tactic(auto)]
 
 mod callable;

@@ -110,7 +110,8 @@ fn all_entries(
 }
 
 /// For each of linked files an entry for each of its methods: its unit, or the first reason why it is not analysed. A
-/// call of another file's method counts as one of the file's own. What callers know of a method is read in its own file.
+/// call of another file's method counts as one of the file's own. What callers know of a method is read in its own
+/// file.
 ///
 /// Cost: the code of each method is read once, however many callers it has.
 pub fn build_linked(alloc: Global, links: &Links<'_>) -> Result<Vec<FileEntries>, NoMemory>

@@ -20,7 +20,7 @@ ghost use Rattle.unit_builder.specs.Sources.{files_of, scope_at};
 ghost use Rattle.unit_builder.specs.declared.slots.Slot.TheVariants.{Unread};
 ghost use Rattle.unit_builder.specs.declared.entry.Outcome.TheVariants.{Analysed};
 
-use crate::calls::callees_at;
+use crate::calls::{callees_of, tokens_of};
 use crate::entry::{MethodEntry, Outcome};
 use crate::header::{Variables, read_variables};
 use crate::making::make_unit;
@@ -216,7 +216,6 @@ impl<'a> Units<'a> {
     }
 
     /// The methods that are called in the body of the analysed method of an index, each once, in order of first use.
-    #[tactic(auto, using(crate::proofs::SlotLists::file_set, crate::proofs::SlotLists::file_there, crate::proofs::SlotLists::file_within))]
     pub(crate) fn callees(&mut self, alloc: Global, index: usize) -> Result<Vec<Token>, NoMemory>
         requires there { index < length (methods_of self.old) }
         ensures same { self.new ≡ self.old }
@@ -224,7 +223,15 @@ impl<'a> Units<'a> {
             → outcome_of self.old method ≡ Analysed unit → IfOk result (λ tokens. tokens.items ≡ callee_tokens self.old method) }
     {
         let method = &self.assembly.methods()[index];
-        callees_at(alloc, self.assembly, method, &mut self.slots[0], index)
+        let keys = callees_of(
+            alloc,
+            &Sources::One(self.assembly),
+            0,
+            method,
+            &mut self.slots,
+            index,
+        )?;
+        tokens_of(alloc, &keys)
     }
 }
 

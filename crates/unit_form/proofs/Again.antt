@@ -20,7 +20,7 @@ use Rattle.unit_form.specs.Parses.{Parse, field, many}
 use Rattle.unit_form.specs.Spelling.{name_bytes, places_bytes}
 use Rattle.unit_form.specs.declared.field_fault.FieldFault.{FieldFault}
 use Rattle.unit_form.specs.declared.form.UnitForm.{UnitForm}
-use Rattle.unit_form.specs.declared.form.UnitForm.TheVariants.{First, Second}
+use Rattle.unit_form.specs.declared.form.UnitForm.TheVariants.{First, Second, Third}
 use Rattle.unit_form.proofs.Stands.{behind, lies, byte_of, byte_read, number_read}
 use Rattle.unit_form.proofs.Taken.{AllGood, one_each}
 
@@ -67,6 +67,7 @@ pub count_again : (form : UnitForm) (bytes : List ℕ) (at n : ℕ) (rest : List
 unfolding count_field
 count_again First bytes at n rest small there = u8_again bytes at n rest (there ∙ ap (λ (t : List ℕ). t ++ rest) (byte_of n small))
 count_again Second bytes at n rest small there = u16_again bytes at n rest small there
+count_again Third bytes at n rest small there = u16_again bytes at n rest small there
 
 pub bytes_again : (bytes : List ℕ) (at count : ℕ) (text rest : List ℕ) → count ≡ length text → at ≤ length bytes → drop at bytes ≡ text ++ rest → ReadsBack bytes (bytes_field count bytes at) text rest
 unfolding bytes_field

@@ -18,3 +18,5 @@ pub mod UnitAgain
 pub mod OffsetsCounted
 mod TreesWritten
 pub mod SpellingBytes
+mod UnitWritten
+pub mod AddedClauses

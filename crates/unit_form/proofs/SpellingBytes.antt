@@ -21,12 +21,13 @@ use Rattle.cil_model.specs.declared.place.Place.{Place}
 use Rattle.cil_model.specs.declared.place.Place.TheVariants as places
 use Rattle.cil_model.specs.declared.unit.CalleeInfo.{CalleeInfo}
 use Rattle.cil_model.specs.declared.unit.Unit.{Unit as MethodUnit}
+use Rattle.unit_form.specs.AddedClauses.{added_clauses}
 use Rattle.unit_form.specs.Callees.{kind_number}
 use Rattle.unit_form.specs.Forms.{count_bytes, count_size, magic}
-use Rattle.unit_form.specs.Spelling.{HasFields, callee_bytes, clause_bytes, clauses_bytes, name_bytes, places_bytes, unit_bytes, unit_spelling}
+use Rattle.unit_form.specs.Spelling.{HasFields, added_bytes, callee_bytes, clause_bytes, clauses_bytes, fields_bytes, form_with, name_bytes, places_bytes, shape_bytes, unit_bytes, unit_spelling}
 use Rattle.unit_form.specs.TreeSpelling.{operator_byte, root_bytes, unary_byte}
 use Rattle.unit_form.specs.declared.form.UnitForm.{UnitForm}
-use Rattle.unit_form.specs.declared.form.UnitForm.TheVariants.{First, Second}
+use Rattle.unit_form.specs.declared.form.UnitForm.TheVariants.{First, Second, Third}
 
 -- ---- lists of parts
 
@@ -114,26 +115,39 @@ callee_fits form callee is =
 letters_fit : (form : UnitForm) → IsBytes (magic form)
 letters_fit First = search (arith, IsBytes-cons, IsBytes-nil)
 letters_fit Second = search (arith, IsBytes-cons, IsBytes-nil)
+letters_fit Third = search (arith, IsBytes-cons, IsBytes-nil)
+
+added_fit : (form : UnitForm) (clauses : List Clause) → length clauses ≤ MAX_CLAUSES → IsBytes (added_bytes form clauses)
+added_fit First clauses few = IsBytes-nil
+added_fit Second clauses few = IsBytes-nil
+added_fit Third clauses few = clauses_fit Third clauses few
+
+fields_fit : (form : UnitForm) (unit : MethodUnit) → HasFields unit → IsBytes unit.code → IsBytes (fields_bytes form unit)
+unfolding fields_bytes shape_bytes
+fields_fit form unit has code =
+    let part8 = little_bytes 4 (length unit.code) ++ unit.code in
+    let part7 = flat_map (callee_bytes form) unit.callees ++ part8 in
+    let part6 = little_bytes 2 (length unit.callees) ++ part7 in
+    let part5 = count_bytes form unit.max_stack in
+    let part4 = places_bytes form unit.locals ++ part5 in
+    let part3 = places_bytes form unit.args ++ part4 in
+    let part2 = place_number unit.result ∷ part3 in
+    let fits7 = IsBytes-append (flat_map (callee_bytes form) unit.callees) part8 (each_fits (callee_bytes form) IsCallee (callee_fits form) unit.callees has.callees) (number_fits 4 (length unit.code) unit.code code) in
+    let fits5 = IsBytes-little_bytes (count_size form) unit.max_stack in
+    let fits4 = IsBytes-append (places_bytes form unit.locals) part5 (places_fit form unit.locals) fits5 in
+    let fits3 = IsBytes-append (places_bytes form unit.args) part4 (places_fit form unit.args) fits4 in
+    let fits2 = IsBytes-cons (place_number unit.result) part3 (place_fits unit.result) fits3 in
+    IsBytes-append (name_bytes unit.name ++ part2) part6 (IsBytes-append (name_bytes unit.name) part2 (name_fits unit.name has.name) fits2) (number_fits 2 (length unit.callees) part7 fits7)
 
 -- A unit whose code is a list of bytes is spelled in bytes, in each form.
 pub spelling_fits : (form : UnitForm) (unit : MethodUnit) → HasFields unit → IsBytes unit.code → IsBytes (unit_spelling form unit)
 unfolding unit_spelling
 spelling_fits form unit has code =
-    let part8 = little_bytes 4 (length unit.code) ++ unit.code in
-    let part7 = flat_map (callee_bytes form) unit.callees ++ part8 in
-    let part6 = little_bytes 2 (length unit.callees) ++ part7 in
-    let part5 = count_bytes form unit.max_stack ++ part6 in
-    let part4 = places_bytes form unit.locals ++ part5 in
-    let part3 = places_bytes form unit.args ++ part4 in
-    let part2 = place_number unit.result ∷ part3 in
-    let part1 = name_bytes unit.name ++ part2 in
-    let fits7 = IsBytes-append (flat_map (callee_bytes form) unit.callees) part8 (each_fits (callee_bytes form) IsCallee (callee_fits form) unit.callees has.callees) (number_fits 4 (length unit.code) unit.code code) in
-    let fits5 = number_fits (count_size form) unit.max_stack part6 (number_fits 2 (length unit.callees) part7 fits7) in
-    let fits4 = IsBytes-append (places_bytes form unit.locals) part5 (places_fit form unit.locals) fits5 in
-    let fits3 = IsBytes-append (places_bytes form unit.args) part4 (places_fit form unit.args) fits4 in
-    let fits2 = IsBytes-cons (place_number unit.result) part3 (place_fits unit.result) fits3 in
-    IsBytes-append (magic form) part1 (letters_fit form) (IsBytes-append (name_bytes unit.name) part2 (name_fits unit.name has.name) fits2)
+    let fields = fields_bytes form unit in
+    let added = added_bytes form (added_clauses unit) in
+    IsBytes-append (magic form) (fields ++ added) (letters_fit form)
+    (IsBytes-append fields added (fields_fit form unit has code) (added_fit form (added_clauses unit) has.added.limits.count))
 
 pub unit_fits : (unit : MethodUnit) → HasFields unit → IsBytes unit.code → IsBytes (unit_bytes unit)
 unfolding unit_bytes
-unit_fits unit has code = spelling_fits Second unit has code
+unit_fits unit has code = spelling_fits (form_with (added_clauses unit)) unit has code

@@ -21,7 +21,7 @@ use Rattle.unit_form.specs.Parses.{Parse, field, many}
 use Rattle.unit_form.specs.Spelling.{name_bytes, places_bytes}
 use Rattle.unit_form.specs.declared.field_fault.FieldFault.{FieldFault}
 use Rattle.unit_form.specs.declared.form.UnitForm.{UnitForm}
-use Rattle.unit_form.specs.declared.form.UnitForm.TheVariants.{First, Second}
+use Rattle.unit_form.specs.declared.form.UnitForm.TheVariants.{First, Second, Third}
 use Rattle.unit_form.proofs.Stands.{byte_of, byte_stands, number_stands}
 use Rattle.unit_form.proofs.Counted.{length-many}
 
@@ -58,6 +58,7 @@ pub count_small : (form : UnitForm) (bytes : List ℕ) (at : ℕ) → IsBytes by
 unfolding count_field u8_field
 count_small First bytes at fits = fits at
 count_small Second bytes at fits = u16_small bytes at fits
+count_small Third bytes at fits = u16_small bytes at fits
 
 pub count_taken : (form : UnitForm) (bytes : List ℕ) (at : ℕ) → IsBytes bytes → first_of (count_field form bytes at).tests ≡ None
     → Stands bytes at (count_field form bytes at) (count_bytes form (count_field form bytes at).value)
@@ -66,6 +67,7 @@ count_taken First bytes at fits passed =
     let count = u8_field bytes at in
     record { there = (u8_taken bytes at passed).there ∙ ap (λ (t : List ℕ). t ++ drop count.next bytes) (sym (byte_of count.value (count_small First bytes at fits))) }
 count_taken Second bytes at fits passed = record { there = (u16_taken bytes at fits passed).there }
+count_taken Third bytes at fits passed = record { there = (u16_taken bytes at fits passed).there }
 
 pub bytes_taken : (count : ℕ) (bytes : List ℕ) (at : ℕ) → Stands bytes at (bytes_field count bytes at) (bytes_field count bytes at).value
 unfolding bytes_field

@@ -1,4 +1,4 @@
--- What a unit file says of the methods that are called, as it is read.
+-- What a unit file says of clauses and of the methods that are called, as it is read.
 use Rattle.std.specs.Prelude.{ℕ, zero, suc, ◌+◌, Bool, false, ◌&&◌, ◌||◌, ◌==◌, nat_le, nat_lt, List, [], ◌∷◌, ◌++◌, length, sum_by, Option, Some, None, if◌then◌else◌}
 use Rattle.cc_base.specs.Tests.{must}
 use Rattle.cil_model.specs.Clauses.{is_kind}
@@ -15,6 +15,8 @@ use Rattle.cil_model.specs.declared.unit.CalleeInfo.{CalleeInfo}
 use Rattle.unit_form.specs.Fields.{name_field, place_field, u8_field, variables_field}
 use Rattle.unit_form.specs.Parses.{Parse, many}
 use Rattle.unit_form.specs.TreeFields.{tree_of_roots, tree_roots}
+use Rattle.unit_form.specs.declared.clause_list.ClauseList.{ClauseList}
+use Rattle.unit_form.specs.declared.clause_list.ClauseList.TheVariants as lists
 use Rattle.unit_form.specs.declared.field_fault.FieldFault.TheVariants.{Form}
 use Rattle.unit_form.specs.declared.form.UnitForm.{UnitForm}
 
@@ -55,16 +57,18 @@ clause_tree form args result kind olds bytes at =
     let tree = tree_of_roots roots.value in
     record { tests = roots.tests ++ (must (is_clause_tree args result kind olds tree) (Form at) ∷ []); value = tree; next = roots.next }
 
-abbrev pub is_kind_number : ℕ → Bool
-is_kind_number number = number == 1 || number == 2
+-- A clause of such a list may have the kind of this number. Added clauses are Ensures.
+abbrev pub is_kind_number : ClauseList → ℕ → Bool
+is_kind_number lists.Contract number = number == 1 || number == 2
+is_kind_number lists.Added number = number == 2
 
 -- A clause: the number of its kind, and its tree.
-unfoldable pub clause_field : UnitForm → List Place → Place → ℕ → List ℕ → ℕ → Parse Clause
-clause_field form args result olds bytes at =
+unfoldable pub clause_field : ClauseList → UnitForm → List Place → Place → ℕ → List ℕ → ℕ → Parse Clause
+clause_field list form args result olds bytes at =
     let number = u8_field bytes at in
     let tree = clause_tree form args result (kind_numbered number.value) olds bytes number.next in
     record {
-      tests = number.tests ++ (must (is_kind_number number.value) (Form at) ∷ tree.tests);
+      tests = number.tests ++ (must (is_kind_number list number.value) (Form at) ∷ tree.tests);
       value = record { kind = kind_numbered number.value; tree = tree.value };
       next = tree.next;
     }
@@ -74,19 +78,24 @@ abbrev pub olds_in : List Clause → ℕ
 olds_in clauses = sum_by (λ clause. old_count clause.tree) clauses
 
 -- The clause after these.
-abbrev pub next_clause : UnitForm → List Place → Place → List ℕ → List Clause → ℕ → Parse Clause
-next_clause form args result bytes clauses at = clause_field form args result (olds_in clauses) bytes at
+abbrev pub next_clause : ClauseList → UnitForm → List Place → Place → List ℕ → List Clause → ℕ → Parse Clause
+next_clause list form args result bytes clauses at = clause_field list form args result (olds_in clauses) bytes at
 
 -- So many clauses.
-abbrev pub clause_fields : UnitForm → ℕ → List Place → Place → List ℕ → ℕ → Parse (List Clause)
-clause_fields form count args result bytes at = many (next_clause form args result bytes) [] count at
+abbrev pub clause_fields : ClauseList → UnitForm → ℕ → List Place → Place → List ℕ → ℕ → Parse (List Clause)
+clause_fields list form count args result bytes at = many (next_clause list form args result bytes) [] count at
+
+-- Such a list may have so many clauses. Added clauses are counted from 1.
+abbrev pub is_clause_count : ClauseList → ℕ → Bool
+is_clause_count lists.Contract count = nat_le count MAX_CLAUSES
+is_clause_count lists.Added count = nat_le 1 count && nat_le count MAX_CLAUSES
 
 -- The clauses of a method, after their count.
-unfoldable pub clauses_field : UnitForm → List Place → Place → List ℕ → ℕ → Parse (List Clause)
-clauses_field form args result bytes at =
+unfoldable pub clauses_field : ClauseList → UnitForm → List Place → Place → List ℕ → ℕ → Parse (List Clause)
+clauses_field list form args result bytes at =
     let count = u8_field bytes at in
-    let clauses = clause_fields form count.value args result bytes count.next in
-    record { tests = count.tests ++ (must (nat_le count.value MAX_CLAUSES) (Form at) ∷ clauses.tests); value = clauses.value; next = clauses.next }
+    let clauses = clause_fields list form count.value args result bytes count.next in
+    record { tests = count.tests ++ (must (is_clause_count list count.value) (Form at) ∷ clauses.tests); value = clauses.value; next = clauses.next }
 
 -- ---- callees
 
@@ -96,7 +105,7 @@ callee_field form bytes at =
     let name = name_field bytes at in
     let result = place_field bytes name.next in
     let args = variables_field form 0 bytes result.next in
-    let clauses = clauses_field form args.value result.value bytes args.next in
+    let clauses = clauses_field lists.Contract form args.value result.value bytes args.next in
     record {
       tests = name.tests ++ (result.tests ++ (args.tests ++ clauses.tests));
       value = record { name = name.value; result = result.value; args = args.value; clauses = clauses.value };

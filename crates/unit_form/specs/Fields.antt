@@ -11,7 +11,7 @@ use Rattle.unit_form.specs.Parses.{Parse, field, many}
 use Rattle.unit_form.specs.declared.field_fault.FieldFault.{FieldFault}
 use Rattle.unit_form.specs.declared.field_fault.FieldFault.TheVariants.{Form}
 use Rattle.unit_form.specs.declared.form.UnitForm.{UnitForm}
-use Rattle.unit_form.specs.declared.form.UnitForm.TheVariants.{First, Second}
+use Rattle.unit_form.specs.declared.form.UnitForm.TheVariants.{First, Second, Third}
 
 -- ---- numbers
 
@@ -28,6 +28,7 @@ u32_field bytes at = record { tests = field bytes at 4 ∷ []; value = u32_at by
 unfoldable pub count_field : UnitForm → List ℕ → ℕ → Parse ℕ
 count_field First bytes at = u8_field bytes at
 count_field Second bytes at = u16_field bytes at
+count_field Third bytes at = u16_field bytes at
 
 -- So many bytes, as one field.
 unfoldable pub bytes_field : ℕ → List ℕ → ℕ → Parse (List ℕ)

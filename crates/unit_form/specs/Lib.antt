@@ -5,6 +5,7 @@ pub mod Roots
 pub mod TreeSpelling
 pub mod TreeFields
 pub mod Callees
+pub mod AddedClauses
 pub mod UnitFields
 pub mod Spelling
 pub mod FieldsRead

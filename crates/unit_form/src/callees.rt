@@ -5,6 +5,7 @@ ghost use Rattle.cc_base.specs.Tests.{first_of, JudgesOrNoMemory};
 ghost use Rattle.unit_form.specs.Callees.{callee_field, callee_fields, callee_offsets};
 ghost use Rattle.unit_form.specs.Parses.{IsRead};
 
+use crate::clause_list::ClauseList;
 use crate::clauses::read_clauses;
 use crate::field_fault::FieldRefusal;
 use crate::form::UnitForm;
@@ -27,7 +28,7 @@ fn read_callee(
     let (name, at) = read_name(bytes, at)?;
     let result = read_place(bytes, at)?;
     let (args, at) = read_variables(alloc, form, bytes, at + 1, 0)?;
-    let (clauses, at) = read_clauses(alloc, form, bytes, at, &args, result)?;
+    let (clauses, at) = read_clauses(alloc, ClauseList::Contract, form, bytes, at, &args, result)?;
     let callee = CalleeInfo {
         name: List::from_vec(Vec::from_slice(alloc, name)?),
         result,

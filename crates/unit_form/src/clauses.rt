@@ -1,34 +1,22 @@
-//! Clauses of methods that are called, as they stand in a unit file.
+//! Lists of clauses, as they stand in a unit file.
 
-ghost use Rattle.std.specs.Prelude.{◌≡◌, ◌+◌, ◌≤◌, true, Some, None, length, map, take, if◌then◌else◌, IfOk};
+ghost use Rattle.std.specs.Prelude.{◌≡◌, ◌+◌, ◌≤◌, true, length, map, take, IfOk};
 ghost use Rattle.cc_base.specs.Tests.{first_of, JudgesOrNoMemory};
 ghost use Rattle.cil_model.specs.Terms.{old_count, term_size};
-ghost use Rattle.unit_form.specs.Callees.{clause_field, clause_fields, clause_tree, clauses_field, is_clause_tree, is_kind_number, kept_tree, kind_numbered, olds_in};
+ghost use Rattle.unit_form.specs.Callees.{clause_field, clause_fields, clause_tree, clauses_field, is_clause_tree, kept_tree, olds_in};
 ghost use Rattle.unit_form.specs.Parses.{IsRead};
 ghost use Rattle.unit_form.specs.Roots.{told};
 ghost use Rattle.unit_form.specs.TreeFields.{tree_of_roots, tree_roots};
 
+use crate::clause_list::ClauseList;
 use crate::field_fault::{FieldFault, FieldRefusal};
 use crate::form::UnitForm;
 use crate::numbers::u8_field;
 use crate::root::Root;
 use crate::tree_builder::tree_of_roots;
 use crate::tree_reader::read_roots;
-use cil_model::{
-    Clause, ClauseKind, Kind, MAX_CLAUSES, MAX_CONDITIONS, MAX_NODES, MAX_OLD_VALUES, Place, Tree,
-};
+use cil_model::{Clause, ClauseKind, Kind, MAX_CONDITIONS, MAX_NODES, MAX_OLD_VALUES, Place, Tree};
 use std::alloc::{AllocError, Global};
-
-/// The kind of clauses that a number stands for.
-fn kind_of_number(number: u8) -> Option<ClauseKind>
-    ensures { result ≡ if is_kind_number number then Some (kind_numbered number) else None }
-{
-    match number {
-        1 => Some(ClauseKind::Requires),
-        2 => Some(ClauseKind::Ensures),
-        _ => None,
-    }
-}
 
 /// Returns whether a clause of a method of these arguments and this result may have the tree, after clauses with so
 /// many old
@@ -100,12 +88,12 @@ fn read_tree(
     }
 }
 
-/// The clause at this offset, of a method of these arguments and this result, after clauses with so many old values;
-/// and
-/// the offset after it.
+/// The clause of such a list at this offset, of a method of these arguments and this result, after clauses with so many
+/// old values; and the offset after it.
 #[tactic(auto, using(cc_base::proofs::TestLemmas::appended, cc_base::proofs::TestLemmas::first_tests, cc_base::proofs::TestLemmas::carried), unfolding(crate::specs::Callees::clause_field))]
 fn read_clause(
     alloc: Global,
+    list: ClauseList,
     form: UnitForm,
     bytes: &[u8],
     at: u32,
@@ -115,21 +103,23 @@ fn read_clause(
 ) -> Result<(Clause, u32), FieldRefusal>
     requires short { length bytes.now ≤ 2147483647 }
     requires few { olds ≤ 64 }
-    ensures { JudgesOrNoMemory result (first_of (clause_field form args.now result_place olds bytes.now at).tests)
-        (λ read. IsRead bytes.now (clause_field form args.now result_place olds bytes.now at) read.0 read.1 × (olds + old_count read.0.tree ≤ 64) × (term_size read.0.tree ≤ 4096)) }
+    ensures { JudgesOrNoMemory result (first_of (clause_field list form args.now result_place olds bytes.now at).tests)
+        (λ read. IsRead bytes.now (clause_field list form args.now result_place olds bytes.now at) read.0 read.1 × (olds + old_count read.0.tree ≤ 64) × (term_size read.0.tree ≤ 4096)) }
 {
     let number = u8_field(bytes, at)?;
-    let Some(kind) = kind_of_number(number) else {
+    let Some(kind) = list.kind_of_number(number) else {
         return Err(FieldFault::Form(at).into());
     };
     let (tree, next) = read_tree(alloc, form, bytes, at + 1, args, result_place, kind, olds)?;
     Ok((Clause { kind, tree }, next))
 }
 
-/// So many clauses of a method of these arguments and this result, from this offset on, and the offset after them.
+/// So many clauses of such a list, of a method of these arguments and this result, from this offset on, and the offset
+/// after them.
 #[tactic(auto, using(crate::proofs::Counted::none_read, crate::proofs::Counted::all_read))]
 fn read_each(
     alloc: Global,
+    list: ClauseList,
     form: UnitForm,
     bytes: &[u8],
     start: u32,
@@ -139,14 +129,14 @@ fn read_each(
 ) -> Result<(Vec<Clause>, u32), FieldRefusal>
     requires short { length bytes.now ≤ 2147483647 }
     requires inside { start ≤ length bytes.now }
-    ensures { JudgesOrNoMemory result (first_of (clause_fields form count args.now result_place bytes.now start).tests)
-        (λ read. IsRead bytes.now (clause_fields form count args.now result_place bytes.now start) read.0.items read.1) }
+    ensures { JudgesOrNoMemory result (first_of (clause_fields list form count args.now result_place bytes.now start).tests)
+        (λ read. IsRead bytes.now (clause_fields list form count args.now result_place bytes.now start) read.0.items read.1) }
 {
     let mut clauses: Vec<Clause> = Vec::with_capacity(alloc, usize::from(count))?;
     let mut at = start;
     let mut olds = 0;
     for _clause in 0..count {
-        let (clause, next) = read_clause(alloc, form, bytes, at, args, result_place, olds)?;
+        let (clause, next) = read_clause(alloc, list, form, bytes, at, args, result_place, olds)?;
         olds += clause.tree.old_count();
         clauses.push(clause)?;
         at = next;
@@ -154,10 +144,12 @@ fn read_each(
     Ok((clauses, at))
 }
 
-/// The clauses of a method of these arguments and this result, after their count, and the offset after them.
+/// The clauses of such a list, of a method of these arguments and this result, after their count, and the offset after
+/// them.
 #[tactic(auto, using(cc_base::proofs::TestLemmas::appended, cc_base::proofs::TestLemmas::first_tests, cc_base::proofs::TestLemmas::carried), unfolding(crate::specs::Callees::clauses_field, crate::specs::Fields::u8_field))]
 pub fn read_clauses(
     alloc: Global,
+    list: ClauseList,
     form: UnitForm,
     bytes: &[u8],
     at: u32,
@@ -165,12 +157,12 @@ pub fn read_clauses(
     result_place: Place,
 ) -> Result<(Vec<Clause>, u32), FieldRefusal>
     requires short { length bytes.now ≤ 2147483647 }
-    ensures { JudgesOrNoMemory result (first_of (clauses_field form args.now result_place bytes.now at).tests)
-        (λ read. IsRead bytes.now (clauses_field form args.now result_place bytes.now at) read.0.items read.1) }
+    ensures { JudgesOrNoMemory result (first_of (clauses_field list form args.now result_place bytes.now at).tests)
+        (λ read. IsRead bytes.now (clauses_field list form args.now result_place bytes.now at) read.0.items read.1) }
 {
     let count = u8_field(bytes, at)?;
-    if usize::from(count) > MAX_CLAUSES {
+    if !list.may_count(count) {
         return Err(FieldFault::Form(at).into());
     }
-    read_each(alloc, form, bytes, at + 1, count, args, result_place)
+    read_each(alloc, list, form, bytes, at + 1, count, args, result_place)
 }

@@ -1,16 +1,18 @@
-//! The two forms of unit files.
+//! The forms of unit files.
 
 ghost use Rattle.std.specs.Prelude.{◌≡◌, Some, None, if◌then◌else◌};
 ghost use Rattle.unit_form.specs.Forms.{form_numbered, is_form_number};
 
 /// A form of unit files. They differ in the size of a place list's count, of the stack's size and of an argument's
-/// number.
+/// number, and in whether clauses follow the code.
 #[derive(Clone, Copy, Debug, PartialEq, Eq)]
 pub enum UnitForm {
     /// `CCU1`: one byte each.
     First,
     /// `CCU2`: two bytes each.
     Second,
+    /// `CCU3`: two bytes each, and after the code the clauses that were added to those of the code.
+    Third,
 }
 
 impl UnitForm {
@@ -21,6 +23,7 @@ impl UnitForm {
         match number {
             b'1' => Some(UnitForm::First),
             b'2' => Some(UnitForm::Second),
+            b'3' => Some(UnitForm::Third),
             _ => None,
         }
     }

@@ -1,7 +1,9 @@
 //! The form of unit files: their fields, read and written.
 #![tactic(auto)]
 
+mod added;
 mod callees;
+mod clause_list;
 mod clauses;
 mod field_fault;
 mod form;
@@ -16,6 +18,7 @@ mod tree_writer;
 mod unit_fields;
 mod unit_writer;
 
+pub use added::{added_clauses, told_count};
 pub use field_fault::{FieldFault, FieldRefusal};
 pub use form::UnitForm;
 pub use unit_fields::{UnitFields, read_fields};

@@ -58,7 +58,7 @@ pub fn count_field(form: UnitForm, bytes: &[u8], at: u32) -> Result<(u16, u32), 
             let count = u8_field(bytes, at)?;
             Ok((u16::from(count), at + 1))
         }
-        UnitForm::Second => {
+        UnitForm::Second | UnitForm::Third => {
             let count = u16_field(bytes, at)?;
             Ok((count, at + 2))
         }

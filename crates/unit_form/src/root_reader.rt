@@ -21,7 +21,7 @@ fn count_size(form: UnitForm) -> u32
 {
     match form {
         UnitForm::First => 1,
-        UnitForm::Second => 2,
+        UnitForm::Second | UnitForm::Third => 2,
     }
 }
 
@@ -68,7 +68,7 @@ fn arg_of(form: UnitForm, operand: &[u8]) -> u16
 {
     match form {
         UnitForm::First => u16::from(operand[0]),
-        UnitForm::Second => cc_base::u16_at(operand, 0),
+        UnitForm::Second | UnitForm::Third => cc_base::u16_at(operand, 0),
     }
 }
 

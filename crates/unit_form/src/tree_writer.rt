@@ -1,4 +1,4 @@
-//! Trees, written as they stand in a unit file of the second form.
+//! Trees, written as they stand in a unit file of the second or the third form.
 
 ghost use Rattle.std.specs.Prelude.{◌≡◌, ◌<◌, ◌++◌, OnOk};
 ghost use Rattle.unit_form.specs.Roots.{told};

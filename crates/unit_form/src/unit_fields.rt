@@ -3,20 +3,23 @@
 ghost use Rattle.std.specs.Prelude.{◌≡◌, ◌+◌, ◌≤◌, ⊤, length, IfOk};
 ghost use Rattle.cc_base.specs.Tests.{first_of, GivesOnly, Judges, JudgesOrNoMemory};
 ghost use Rattle.cil_model.specs.Limits.{MAX_CODE_BYTES, MAX_VARIABLES};
+ghost use Rattle.cil_model.specs.WellFormed.{ClausesWithinLimits};
 ghost use Rattle.unit_form.specs.FieldsRead.{fields_told, HasRead, IsCodeWithin};
 ghost use Rattle.cil_model.specs.declared.unit.Unit.{Unit as MethodUnit};
 ghost use Rattle.unit_form.specs.Forms.{form_of};
 ghost use Rattle.unit_form.specs.Parses.{IsRead};
 ghost use Rattle.unit_form.specs.Spelling.{HasFields, IsSpelledBy};
-ghost use Rattle.unit_form.specs.UnitFields.{code_field, fields_in, magic_tests, max_stack_field, unit_fields};
+ghost use Rattle.unit_form.specs.UnitFields.{added_field, code_field, end_tests, fields_in, magic_tests, max_stack_field, unit_fields};
 
 use crate::callees::read_callees;
+use crate::clause_list::ClauseList;
+use crate::clauses::read_clauses;
 use crate::field_fault::{FieldFault, FieldRefusal};
 use crate::form::UnitForm;
 use crate::names::read_name;
 use crate::numbers::{bytes_field, count_field, skip_field, u16_field, u32_field};
 use crate::places::{read_place, read_variables};
-use cil_model::{CalleeInfo, MAX_CODE_BYTES, MAX_VARIABLES, Place};
+use cil_model::{CalleeInfo, Clause, MAX_CODE_BYTES, MAX_VARIABLES, Place};
 use std::alloc::Global;
 
 /// What stands in a unit file.
@@ -36,9 +39,13 @@ pub struct UnitFields<'a> {
     pub code: &'a [u8],
     /// Where the code begins in the file.
     pub code_offset: u32,
+    /// The clauses that were added to those of the code.
+    pub added: Vec<Clause>,
+    /// Where they begin in the file, or would begin: the offset after the code.
+    pub added_offset: u32,
 }
 
-/// The form of the file, by its first four bytes, `CCU1` or `CCU2`.
+/// The form of the file, by its first four bytes, `CCU1`, `CCU2` or `CCU3`.
 #[tactic(auto, using(cc_base::proofs::TestLemmas::first_tests), unfolding(crate::specs::UnitFields::magic_tests, crate::specs::Forms::form_of))]
 fn read_magic(bytes: &[u8]) -> Result<UnitForm, FieldFault>
     ensures { Judges result (first_of (magic_tests bytes.now)) (λ form. form ≡ form_of bytes.now) }
@@ -78,12 +85,12 @@ fn read_max_stack(
     Ok((size, next))
 }
 
-/// The code, after its length. Nothing stands after it.
+/// The code, after its length, and the offset after it.
 #[tactic(auto, using(cc_base::proofs::TestLemmas::appended, cc_base::proofs::TestLemmas::first_tests), unfolding(crate::specs::UnitFields::code_field))]
-fn read_code(bytes: &[u8], at: u32) -> Result<&[u8], FieldFault>
+fn read_code(bytes: &[u8], at: u32) -> Result<(&[u8], u32), FieldFault>
     requires short { length bytes.now ≤ 2147483647 }
     ensures { Judges result (first_of (code_field bytes.now at).tests)
-        (λ code. (code.now ≡ (code_field bytes.now at).value) × (length code.now ≤ MAX_CODE_BYTES) × (at + 4 + length code.now ≤ length bytes.now)) }
+        (λ read. IsRead bytes.now (code_field bytes.now at) read.0.now read.1 × (length read.0.now ≤ MAX_CODE_BYTES) × (at + 4 + length read.0.now ≤ length bytes.now)) }
 {
     let count = u32_field(bytes, at)?;
     if count as usize > MAX_CODE_BYTES {
@@ -91,11 +98,50 @@ fn read_code(bytes: &[u8], at: u32) -> Result<&[u8], FieldFault>
     }
     let start = at + 4;
     let code = bytes_field(bytes, start, count)?;
-    let end = start + count;
-    if bytes.len() > end as usize {
-        return Err(FieldFault::Form(end));
+    Ok((code, start + count))
+}
+
+/// The clauses of a method of these arguments and this result that were added to those of its code, and the offset
+/// after them. A file of another form than the third has none.
+#[tactic(auto, unfolding(cc_base::specs::Tests::first_of, crate::specs::UnitFields::added_field))]
+fn read_added(
+    alloc: Global,
+    form: UnitForm,
+    bytes: &[u8],
+    at: u32,
+    args: &[Place],
+    result_place: Place,
+) -> Result<(Vec<Clause>, u32), FieldRefusal>
+    requires short { length bytes.now ≤ 2147483647 }
+    requires inside { at ≤ length bytes.now }
+    ensures { JudgesOrNoMemory result (first_of (added_field form args.now result_place bytes.now at).tests)
+        (λ read. IsRead bytes.now (added_field form args.now result_place bytes.now at) read.0.items read.1) }
+{
+    match form {
+        UnitForm::First | UnitForm::Second => Ok((Vec::new(alloc), at)),
+        UnitForm::Third => {
+            read_clauses(
+                alloc,
+                ClauseList::Added,
+                form,
+                bytes,
+                at,
+                args,
+                result_place,
+            )
+        }
     }
-    Ok(code)
+}
+
+/// Tests that nothing stands from this offset on.
+#[tactic(auto, using(cc_base::proofs::TestLemmas::first_tests), unfolding(crate::specs::UnitFields::end_tests))]
+fn check_end(bytes: &[u8], at: u32) -> Result<(), FieldFault>
+    ensures { Judges result (first_of (end_tests bytes.now at)) (λ _. ⊤) }
+{
+    if bytes.len() > at as usize {
+        return Err(FieldFault::Form(at));
+    }
+    Ok(())
 }
 
 /// The fields behind the magic of this form, or the first fault among them.
@@ -112,7 +158,10 @@ fn read_in(alloc: Global, form: UnitForm, bytes: &[u8]) -> Result<UnitFields<'_>
     let (max_stack, at) = read_max_stack(form, bytes, at, args.len() + locals.len())?;
     let count = u16_field(bytes, at)?;
     let (callees, callee_offsets, at) = read_callees(alloc, form, bytes, at + 2, count)?;
-    let code = read_code(bytes, at)?;
+    let code_offset = at + 4;
+    let (code, added_offset) = read_code(bytes, at)?;
+    let (added, end) = read_added(alloc, form, bytes, added_offset, &args, result)?;
+    check_end(bytes, end)?;
     Ok(UnitFields {
         name,
         result,
@@ -122,7 +171,9 @@ fn read_in(alloc: Global, form: UnitForm, bytes: &[u8]) -> Result<UnitFields<'_>
         callees,
         callee_offsets,
         code,
-        code_offset: at + 4,
+        code_offset,
+        added,
+        added_offset,
     })
 }
 
@@ -137,7 +188,7 @@ fn read_first(alloc: Global, bytes: &[u8]) -> Result<UnitFields<'_>, FieldRefusa
     read_in(alloc, form, bytes)
 }
 
-/// The fields of a unit file in one of the two forms, or the first fault among them.
+/// The fields of a unit file in one of the forms, or the first fault among them.
 ///
 /// Cost: linear in the length of the file. The name and the code are not copied.
 pub fn read_fields(alloc: Global, bytes: &[u8]) -> Result<UnitFields<'_>, FieldRefusal>
@@ -146,6 +197,8 @@ pub fn read_fields(alloc: Global, bytes: &[u8]) -> Result<UnitFields<'_>, FieldR
     ensures judged { JudgesOrNoMemory result (first_of (unit_fields bytes.now).tests) (λ fields. fields_told fields ≡ (unit_fields bytes.now).value) }
     // The code lies in the file, and is not too long.
     ensures code { IfOk result (IsCodeWithin bytes.now) }
+    // The added clauses keep the limits together.
+    ensures added { IfOk result (λ fields. ClausesWithinLimits fields.added.items) }
     // What is read is spelled by the bytes, in one of the forms.
     ensures spelled { IfOk result (λ fields. (unit : MethodUnit) → HasRead unit (fields_told fields) → IsSpelledBy unit bytes.now × HasFields unit) }
     // Where the bytes spell a unit in one of the forms, its fields are read, unless memory runs out.

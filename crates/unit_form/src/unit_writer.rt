@@ -1,12 +1,14 @@
-//! Units, written as files of the second form.
+//! Units, written as files of the second or the third form.
 
 ghost use Rattle.std.specs.Prelude.{◌≡◌, ◌≤◌, ◌<◌, ◌++◌, ◌^◌, length, IfOk, OnOk};
 ghost use Rattle.std.specs.List.{flat_map, AllByRecursion};
 ghost use Rattle.cil_model.specs.WellFormed.{IsCallee};
 ghost use Rattle.unit_form.specs.Callees.{kind_number};
-ghost use Rattle.unit_form.specs.Spelling.{HasFields, callee_bytes, clause_bytes, clauses_bytes, name_bytes, places_bytes, unit_bytes};
-ghost use Rattle.unit_form.specs.declared.form.UnitForm.TheVariants.{Second};
+ghost use Rattle.unit_form.specs.Forms.{magic};
+ghost use Rattle.unit_form.specs.Spelling.{HasFields, callee_bytes, clause_bytes, clauses_bytes, fields_bytes, name_bytes, places_bytes, shape_bytes, unit_bytes};
+ghost use Rattle.unit_form.specs.declared.form.UnitForm.TheVariants.{Second, Third};
 
+use crate::added::added_clauses;
 use crate::tree_writer::append_tree;
 use cil_model::{CalleeInfo, Clause, ClauseKind, Place, Unit};
 use std::alloc::{AllocError, Global};
@@ -79,24 +81,70 @@ fn append_callees(out: &mut Vec<u8>, callees: &[CalleeInfo]) -> Result<(), Alloc
     Ok(())
 }
 
-/// The file of a unit, in the second form.
-#[tactic(auto, unfolding(crate::specs::Spelling::unit_bytes, crate::specs::Spelling::unit_spelling))]
+/// Appends the name, the places and the size of the stack of a unit.
+#[tactic(auto, unfolding(crate::specs::Spelling::shape_bytes))]
+fn append_shape(out: &mut Vec<u8>, unit: &Unit) -> Result<(), AllocError>
+    requires fields { HasFields unit.now }
+    ensures { OnOk result (out.new.items ≡ out.old.items ++ shape_bytes Second unit.now) }
+{
+    append_name(out, unit.name.as_slice())?;
+    out.push(unit.result.number())?;
+    append_places(out, unit.args.as_slice())?;
+    append_places(out, unit.locals.as_slice())?;
+    out.extend_from_slice(&unit.max_stack.to_le_bytes())?;
+    Ok(())
+}
+
+/// Appends all fields of a unit that stand in each form, from the name to the code.
+#[tactic(auto, unfolding(crate::specs::Spelling::fields_bytes))]
+fn append_fields(out: &mut Vec<u8>, unit: &Unit) -> Result<(), AllocError>
+    requires fields { HasFields unit.now }
+    ensures { OnOk result (out.new.items ≡ out.old.items ++ fields_bytes Second unit.now) }
+{
+    append_shape(out, unit)?;
+    let callees = unit.callees.as_slice();
+    out.extend_from_slice(&(callees.len() as u16).to_le_bytes())?;
+    append_callees(out, callees)?;
+    let code = unit.code.as_slice();
+    out.extend_from_slice(&(code.len() as u32).to_le_bytes())?;
+    out.extend_from_slice(code)?;
+    Ok(())
+}
+
+/// The file of a unit to which no clauses were added, in the second form.
+fn second_bytes(alloc: Global, unit: &Unit) -> Result<Vec<u8>, AllocError>
+    requires fields { HasFields unit.now }
+    ensures { IfOk result (λ bytes. bytes.items ≡ magic Second ++ fields_bytes Second unit.now) }
+{
+    let mut out = Vec::new(alloc);
+    out.extend_from_slice(b"CCU2")?;
+    append_fields(&mut out, unit)?;
+    Ok(out)
+}
+
+/// The file of a unit to which these clauses were added, in the third form. It has counts as the second form has.
+fn third_bytes(alloc: Global, unit: &Unit, added: &[Clause]) -> Result<Vec<u8>, AllocError>
+    requires fields { HasFields unit.now }
+    requires few { length added.now < 2 ^ 8 }
+    ensures { IfOk result (λ bytes. bytes.items ≡ magic Third ++ (fields_bytes Second unit.now ++ clauses_bytes Second added.now)) }
+{
+    let mut out = Vec::new(alloc);
+    out.extend_from_slice(b"CCU3")?;
+    append_fields(&mut out, unit)?;
+    append_clauses(&mut out, added)?;
+    Ok(out)
+}
+
+/// The file of a unit: in the second form, or in the third where clauses were added.
+#[tactic(auto, using(crate::proofs::UnitWritten::in_second, crate::proofs::UnitWritten::in_third))]
 pub fn unit_bytes(alloc: Global, unit: &Unit) -> Result<Vec<u8>, AllocError>
     requires fields { HasFields unit.now }
     ensures { IfOk result (λ bytes. bytes.items ≡ unit_bytes unit.now) }
 {
-    let mut out = Vec::new(alloc);
-    out.extend_from_slice(b"CCU2")?;
-    append_name(&mut out, unit.name.as_slice())?;
-    out.push(unit.result.number())?;
-    append_places(&mut out, unit.args.as_slice())?;
-    append_places(&mut out, unit.locals.as_slice())?;
-    out.extend_from_slice(&unit.max_stack.to_le_bytes())?;
-    let callees = unit.callees.as_slice();
-    out.extend_from_slice(&(callees.len() as u16).to_le_bytes())?;
-    append_callees(&mut out, callees)?;
-    let code = unit.code.as_slice();
-    out.extend_from_slice(&(code.len() as u32).to_le_bytes())?;
-    out.extend_from_slice(code)?;
-    Ok(out)
+    let added = added_clauses(unit);
+    if added.is_empty() {
+        second_bytes(alloc, unit)
+    } else {
+        third_bytes(alloc, unit, added)
+    }
 }

@@ -1,4 +1,5 @@
--- What is found of a unit under what the finder answers, or a cache file holds, is told by the unit and its manner alone.
+-- What is found of a unit under what the finder answers, or a cache file holds, is told by the unit and its manner
+-- alone.
 use Rattle.std.proofs.Common.{◌≡◌, ℕ, Bool, true, false, List, [], ◌∷◌, map, Option, Some, None, Result, Ok, Err, Vec, Global, if◌then◌else◌, refl, ap, ap₂, ◌∙◌, subst, sym}
 use Rattle.std.specs.Prelude.{IfOk, unwrap_or}
 use Rattle.std.proofs.lemmas.Bool.{false≢true}

@@ -15,8 +15,8 @@ use Rattle.result_cache.specs.FirstForm.{entries_told}
 use Rattle.state_facts.specs.StateFacts.{State}
 use Rattle.unit_flow.specs.FlowOf.{flow_of}
 use Rattle.unit_form.specs.Spelling.{unit_bytes}
-use Rattle.unit_form.specs.declared.form.UnitForm.{UnitForm}
-use Rattle.unit_form.specs.declared.form.UnitForm.TheVariants.{Second}
+use Rattle.result_cache.specs.declared.cache_form.CacheForm.{CacheForm}
+use Rattle.result_cache.specs.declared.cache_form.CacheForm.TheVariants.{Second}
 use Rattle.unit_verdicts.specs.CacheFile.{AreHonest, IsHonest, IsHonestFile, invariant_used, limit_bytes}
 use Rattle.unit_verdicts.specs.Keys.{IsKey}
 use Rattle.unit_verdicts.specs.Picks.{Pick, held_or_limit, limit_manner, limit_pick, pick_of, shown_text, states_in, states_text, verdicts_under}
@@ -103,5 +103,5 @@ honest_file bytes is =
     let standing : AreHonest (entries_standing bytes) = subst AreHonest (sym again.value) is.honest in
     record {
       passed = again.passed;
-      honest = subst (λ (form : UnitForm). AreHonest (entries_told form (entries_standing bytes))) (sym again.form_is) standing;
+      honest = subst (λ (form : CacheForm). AreHonest (entries_told form (entries_standing bytes))) (sym again.form_is) standing;
     }

@@ -1,18 +1,18 @@
 -- The entries that are kept, and the file of them.
-use Rattle.std.proofs.Common.{◌≡◌, ℕ, zero, suc, ◌-◌, Bool, true, false, List, [], ◌∷◌, ◌++◌, cond, slice_get, Option, None, Some, option_map, Result, Ok, Err, refl, sym, ap, subst, ◌∙◌}
-use Rattle.std.specs.Prelude.{IfOk, nat_le, unwrap_or}
+use Rattle.std.proofs.Common.{◌≡◌, ℕ, zero, suc, ◌-◌, Bool, true, false, List, [], ◌∷◌, ◌++◌, cond, slice_get, Option, Some, option_map, Result, Ok, Err, refl, sym, ap, subst, ◌∙◌}
+use Rattle.std.specs.Prelude.{IfOk, nat_le}
 use Rattle.std.specs.List.{AllByRecursion}
 use Rattle.invariant_codec.specs.Invariants.{IsInvariant}
-use Rattle.method_unit.specs.UnitFile.{unit_of}
-use Rattle.result_cache.specs.Entries.{AreEntries, AreEntriesBehind, Entry, invariant_of}
+use Rattle.result_cache.specs.Entries.{AreEntries, AreEntriesBehind, Entry}
 use Rattle.result_cache.specs.Spelling.{IsCacheFile, entry_size, file_bytes, kept, kept_within}
-use Rattle.unit_form.specs.declared.form.UnitForm.TheVariants.{Second}
-use Rattle.unit_verdicts.specs.CacheFile.{AreHonest, IsHonest, IsHonestFile, cache_left, entries_used, invariant_used, limit_bytes}
-use Rattle.unit_verdicts.specs.Picks.{entries_in, limit_pick, states_in}
+use Rattle.result_cache.specs.declared.cache_form.CacheForm.TheVariants.{Second}
+use Rattle.unit_verdicts.specs.CacheFile.{AreHonest, IsHonest, IsHonestFile, cache_left, entries_used, held_or_own, invariant_used}
+use Rattle.unit_verdicts.specs.Picks.{entries_in}
 use Rattle.unit_verdicts.specs.VerdictCache.{AreCached, AreNew, CachedUnits, IsCached, JudgedEntry, entries_kept, keys_in}
 use Rattle.unit_verdicts.specs.declared.source.Source.{Source}
 use Rattle.unit_verdicts.proofs.CacheLemmas.{all_at, stands_at}
 use Rattle.unit_verdicts.proofs.Honest.{used_honest}
+use Rattle.unit_verdicts.proofs.UsedBytes.{limit_again, used_is}
 
 -- ---- all of them
 
@@ -44,14 +44,11 @@ kept_are cache entries cached keys = by cache.keeps cached
 all_honest : (show : Bool) (held : Source) (entries : List JudgedEntry) → AreHonest (entries_in held)
     → AllByRecursion (λ entry. IsCached show true held entry.0.items entry.1) entries
     → AreHonest (entries_used (entries_in held) (keys_in entries))
-unfolding limit_bytes
 all_honest show held [] honest all = tt
-all_honest show held (entry ∷ entries) honest all =
-    let key = entry.0.items in
-    let one = all.0 in
-    let limit : invariant_of (entries_in held) key ≡ None → states_in (limit_bytes (unit_of key)) ≡ limit_pick (unit_of key) =
-    λ none. let its = one.own refl none in ap states_in (sym its.spelled) ∙ its.again in
-    (used_honest (entries_in held) key honest one.is_key limit, all_honest show held entries honest all.1)
+all_honest show held (entry ∷ entries) honest all = (
+  used_honest (entries_in held) entry.0.items honest all.0.is_key (limit_again show true held entry.0.items entry.1 all.0 refl),
+  all_honest show held entries honest all.1,
+)
 
 -- ---- those that have room
 
@@ -118,10 +115,6 @@ used_at held (key ∷ keys) (suc place) = used_at held keys place
 abbrev entry_there : List Entry → Option JudgedEntry → Option Entry
 entry_there held found = option_map (entry_of held) (option_map (λ (entry : JudgedEntry). entry.0.items) found)
 
--- The invariant of a key, by what the cache file holds for it.
-abbrev used_if : List ℕ → Option (List ℕ) → List ℕ
-used_if key found = unwrap_or found (limit_bytes (unit_of key))
-
 module _ (cache : CachedUnits) (entries : List JudgedEntry)
     (keeps : cache.keeps ≡ true) (keys : keys_in entries ≡ cache.keys) where
   -- What stands at a place, by what the map has there.
@@ -132,24 +125,11 @@ module _ (cache : CachedUnits) (entries : List JudgedEntry)
       ∙ used_at (entries_in cache.held) (keys_in entries) place
       ∙ ap (option_map (entry_of (entries_in cache.held))) (sym (stands_at entries place))
 
-  kept_some : (place : ℕ) (entry : JudgedEntry) (bytes : List ℕ) → slice_get entries place ≡ Some entry
-      → invariant_used (entries_in cache.held) entry.0.items ≡ bytes
-      → Some (entry.0.items, bytes) ≡ slice_get (entries_kept cache) place
-  kept_some place entry bytes is used =
-      sym (kept_at place ∙ ap (entry_there (entries_in cache.held)) is ∙ ap (λ (b : List ℕ). Some (entry.0.items, b)) used)
-
-  -- The invariant is one that the cache file holds.
-  pub kept_held : (place : ℕ) (entry : JudgedEntry) (bytes : List ℕ) → slice_get entries place ≡ Some entry
-      → Some bytes ≡ invariant_of (entries_in cache.held) entry.0.items
-      → Some (entry.0.items, bytes) ≡ slice_get (entries_kept cache) place
-  kept_held place entry bytes is held = kept_some place entry bytes is (ap (used_if entry.0.items) (sym held))
-
-  -- It is the one that the finder answered.
-  pub kept_own : (place : ℕ) (entry : JudgedEntry) → AreCached cache.show cache.keeps cache.held entries
-      → slice_get entries place ≡ Some entry → None ≡ invariant_of (entries_in cache.held) entry.0.items
-      → Some (entry.0.items, entry.1.invariant.items) ≡ slice_get (entries_kept cache) place
-  unfolding limit_bytes
-  kept_own place entry cached is none =
+  -- What is read of that: the key, and the bytes that the cache file holds for it, or else those that are kept.
+  pub kept_there : (place : ℕ) (entry : JudgedEntry) → AreCached cache.show cache.keeps cache.held entries
+      → slice_get entries place ≡ Some entry
+      → Some (entry.0.items, held_or_own (entries_in cache.held) entry.0.items entry.1.invariant.items) ≡ slice_get (entries_kept cache) place
+  kept_there place entry cached is =
       let each = all_at (λ (e : JudgedEntry). IsCached cache.show cache.keeps cache.held e.0.items e.1) entries place entry cached.each is in
-      let its = IsCached.own each keeps (sym none) in
-      kept_some place entry entry.1.invariant.items is (ap (used_if entry.0.items) (sym none) ∙ sym its.spelled)
+      ap (λ (bytes : List ℕ). Some (entry.0.items, bytes)) (used_is cache.show cache.keeps cache.held entry.0.items entry.1 each keeps)
+      ∙ sym (kept_at place ∙ ap (entry_there (entries_in cache.held)) is)

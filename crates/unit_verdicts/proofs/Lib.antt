@@ -4,6 +4,7 @@ pub mod UnitSafety
 pub mod UnitShapes
 pub mod FoundOf
 pub mod CacheLemmas
+pub mod UsedBytes
 pub mod Honest
 pub mod KeptEntries
 pub mod Stating

@@ -1,6 +1,6 @@
 -- The entries that a proof file has of units and their invariants as bytes.
 use Rattle.std.proofs.Common.{◌≡◌, ℕ, Bool, true, false, ◌||◌, List, [], ◌∷◌, ◌++◌, cond, Option, Some, None, Result, Ok, Err, refl, sym, ap, ap₂, subst, ◌∙◌}
-use Rattle.std.specs.Prelude.{◌↔◌, IsTrue, OnOk, option_to_list, unwrap_or}
+use Rattle.std.specs.Prelude.{◌↔◌, IsTrue, OnOk, option_to_list}
 use Rattle.std.specs.List.{AllByRecursion, cons_option}
 use Rattle.std.specs.Str.{bytes_eq}
 use Rattle.std.proofs.lemmas.Bool.{false≢true}
@@ -11,21 +11,21 @@ use Rattle.invariant_codec.specs.Spellable.{AreSpellable}
 use Rattle.method_unit.specs.UnitFile.{unit_of}
 use Rattle.method_unit.specs.Units.{IsUnit}
 use Rattle.proof_files.specs.Proofs.{AreEntries, AreEntriesBehind, Entry, IsEntry, is_among}
-use Rattle.result_cache.specs.Entries.{Entry as CacheEntry, invariant_of}
+use Rattle.result_cache.specs.Entries.{Entry as CacheEntry}
 use Rattle.state_facts.specs.StateFacts.{State}
 use Rattle.transfer_rules.specs.Inductive.{HasShape}
 use Rattle.unit_flow.specs.FlowOf.{flow_of}
 use Rattle.unit_flow.specs.declared.unit_flow.UnitFlow.{UnitFlow}
-use Rattle.unit_form.specs.Spelling.{unit_bytes}
-use Rattle.unit_verdicts.specs.CacheFile.{entries_used, invariant_used, limit_bytes}
+use Rattle.unit_verdicts.specs.CacheFile.{entries_used, invariant_used}
 use Rattle.unit_verdicts.specs.Keys.{IsKey}
-use Rattle.unit_verdicts.specs.Picks.{Pick, entries_in, held_or_limit, limit_pick, pick_from, pick_of, states_in}
+use Rattle.unit_verdicts.specs.Picks.{Pick, entries_in, pick_from, pick_of, states_in}
 use Rattle.unit_verdicts.specs.ProofLeft.{proof_entries, proof_entry, spelled_entries, spelled_entry}
 use Rattle.unit_verdicts.specs.VerdictCache.{AreNew, IsCached, IsHeldFor, JudgedEntry, keys_in}
 use Rattle.unit_verdicts.specs.declared.source.Source.{Source}
 use Rattle.unit_verdicts.specs.declared.source.Source.TheVariants.{Cache as OfCache, Proof as OfProof}
 use Rattle.unit_verdicts.proofs.Printable.{all_ordered, of_blocks}
 use Rattle.unit_verdicts.proofs.UnitShapes.{shape_is}
+use Rattle.unit_verdicts.proofs.UsedBytes.{used_states}
 
 -- ---- one of them
 
@@ -89,19 +89,6 @@ module _ (before : List CacheEntry) (next : List CacheEntry) (e : CacheEntry) (i
 
 -- ---- those of the units that were judged
 
--- The bytes that are kept of a unit are those of the states under which it was judged.
-module _ (held : List CacheEntry) (key : List ℕ) (spelled : unit_bytes (unit_of key) ≡ key)
-    (own : invariant_of held key ≡ None → states_in (limit_bytes (unit_of key)) ≡ limit_pick (unit_of key)) where
-  used_states : states_in (invariant_used held key) ≡ pick_of held (unit_of key)
-  used_states =
-      by (invariant_of held key) own
-      ∙ ap (λ (found : Option (List ℕ)). held_or_limit found (unit_of key)) (ap (invariant_of held) (sym spelled))
-    where
-      by : (found : Option (List ℕ)) → (found ≡ None → states_in (limit_bytes (unit_of key)) ≡ limit_pick (unit_of key))
-          → states_in (unwrap_or found (limit_bytes (unit_of key))) ≡ held_or_limit found (unit_of key)
-      by None limit = limit refl
-      by (Some bytes) limit = refl
-
 used_entry : (pick : Pick) (key bytes : List ℕ) → states_in bytes ≡ pick (unit_of key)
     → spelled_entry (key, bytes) ≡ proof_entry pick (unit_of key)
 used_entry pick key bytes same =
@@ -110,14 +97,10 @@ used_entry pick key bytes same =
 used_entries : (show : Bool) (held : List CacheEntry) (entries : List JudgedEntry)
     → AllByRecursion (λ entry. IsCached show true (OfCache held) entry.0.items entry.1) entries
     → spelled_entries (entries_used held (keys_in entries)) ≡ proof_entries (OfCache held) (keys_in entries)
-unfolding limit_bytes
 used_entries show held [] all = refl
 used_entries show held (entry ∷ entries) all =
     let key = entry.0.items in
-    let one = all.0 in
-    let limit : invariant_of held key ≡ None → states_in (limit_bytes (unit_of key)) ≡ limit_pick (unit_of key) =
-    λ none. let its = one.own refl none in ap states_in (sym its.spelled) ∙ its.again in
-    ap₂ cons_option (used_entry (pick_of held) key (invariant_used held key) (used_states held key one.is_key.spelled limit))
+    ap₂ cons_option (used_entry (pick_of held) key (invariant_used held key) (used_states show true held key entry.1 all.0 refl))
     (used_entries show held entries all.1)
 
 pub left_entries : (show : Bool) (held : Source) (entries : List JudgedEntry) → IsHeldFor true held

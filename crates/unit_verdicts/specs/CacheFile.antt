@@ -8,7 +8,7 @@ use Rattle.method_unit.specs.Units.{IsUnit}
 use Rattle.result_cache.specs.Entries.{Entry, invariant_of}
 use Rattle.result_cache.specs.Spelling.{IsCacheFile, file_bytes, kept}
 use Rattle.unit_form.specs.Spelling.{unit_bytes}
-use Rattle.unit_form.specs.declared.form.UnitForm.TheVariants.{Second}
+use Rattle.result_cache.specs.declared.cache_form.CacheForm.TheVariants.{Second}
 use Rattle.unit_verdicts.specs.Picks.{limit_pick, states_in}
 use Rattle.unit_verdicts.specs.declared.source.Source.{Source}
 use Rattle.unit_verdicts.specs.declared.source.Source.TheVariants.{Cache as OfCache, Proof as OfProof}
@@ -17,10 +17,14 @@ use Rattle.unit_verdicts.specs.declared.source.Source.TheVariants.{Cache as OfCa
 unfoldable pub limit_bytes : MethodUnit → List ℕ
 limit_bytes unit = states_bytes (limit_pick unit)
 
+-- The bytes that a cache holds for those of a unit, else the unit's own.
+abbrev pub held_or_own : List Entry → List ℕ → List ℕ → List ℕ
+held_or_own entries key own = unwrap_or (invariant_of entries key) own
+
 -- The bytes of the invariant under which a unit of these bytes is judged: of the one that a cache holds for it, else of
 -- what a finder answers.
 abbrev pub invariant_used : List Entry → List ℕ → List ℕ
-invariant_used entries key = unwrap_or (invariant_of entries key) (limit_bytes (unit_of key))
+invariant_used entries key = held_or_own entries key (limit_bytes (unit_of key))
 
 -- The entries of the units that were judged, in the order in which they came, where a cache had these entries before.
 abbrev pub entries_used : List Entry → List (List ℕ) → List Entry

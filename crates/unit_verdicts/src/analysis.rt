@@ -18,7 +18,7 @@ ghost use Rattle.widening_engine.specs.Limits.{limit_of};
 
 use crate::proved_units::ProvedUnits;
 use crate::unit_verdicts::{UnitVerdicts, judge_under};
-use cil_model::{CalleeInfo, List};
+use cil_model::Unit;
 use invariant_codec::{read_states, states_bytes};
 use result_cache::Cache;
 use stack_typer::TypedUnit;
@@ -52,13 +52,22 @@ pub fn judge_flow<D: Finder>(
     judge_under(alloc, code, &invariant, show)
 }
 
-/// A unit that was judged, of which the rest is given up.
+/// A unit that was judged.
 #[derive(Drop)]
 pub struct JudgedUnit {
-    /// What the unit knows of the methods that it calls.
-    pub callees: List<CalleeInfo>,
+    /// The unit.
+    pub unit: Unit,
     /// The verdicts on it.
     pub found: UnitVerdicts,
+}
+
+/// A unit with the invariant under which it is judged.
+#[derive(Drop)]
+pub struct PickedUnit {
+    /// The unit with its graph and its kinds.
+    pub code: UnitFlow,
+    /// The invariant.
+    pub invariant: Invariant,
 }
 
 /// What is kept of a unit that was judged.
@@ -120,6 +129,18 @@ fn judge_stated(
     })
 }
 
+/// The bytes, where a reader takes so many: it counts with 31 bits. More are want of memory.
+pub fn readable(bytes: &[u8]) -> Result<&[u8], AllocError>
+    ensures same { IfOk result (λ read. read.now ≡ bytes.now) }
+    ensures short { IfOk result (λ read. length read.now ≤ 2147483647) }
+{
+    if bytes.len() <= 2_147_483_647 {
+        Ok(bytes)
+    } else {
+        Err(AllocError)
+    }
+}
+
 /// The invariant that these bytes spell.
 pub fn read_invariant(alloc: Global, bytes: &[u8]) -> Result<Invariant, AllocError>
     requires short { length bytes.now ≤ 2147483647 }
@@ -173,8 +194,8 @@ pub fn judge_cached<D: Finder>(
     }
 }
 
-/// Judges the unit of these bytes under what a proof file states of it, or else under the states of no blocks. Nothing is
-/// kept of it.
+/// Judges the unit of these bytes under what a proof file states of it, or else under the states of no blocks. Nothing
+/// is kept of it.
 pub fn judge_proved(
     alloc: Global,
     code: &UnitFlow,

@@ -8,6 +8,6 @@ mod source;
 mod unit_verdicts;
 mod verdict_cache;
 
-pub use analysis::{JudgedUnit, find_flow, judge_flow};
+pub use analysis::{JudgedUnit, PickedUnit, find_flow, judge_flow};
 pub use unit_verdicts::{UnitVerdicts, judge_under};
 pub use verdict_cache::VerdictCache;

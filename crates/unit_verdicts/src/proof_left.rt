@@ -1,6 +1,6 @@
 //! The proof file that a call leaves.
 
-ghost use Rattle.std.specs.Prelude.{◌≡◌, ◌≤◌, ◌++◌, List, length, option_to_list, IfOk, OnOk};
+ghost use Rattle.std.specs.Prelude.{◌≡◌, ◌++◌, List, option_to_list, IfOk, OnOk};
 ghost use Rattle.std.specs.List.{AllByRecursion};
 ghost use Rattle.invariant_codec.specs.Invariants.{IsInvariant};
 ghost use Rattle.method_unit.specs.UnitFile.{unit_of};
@@ -11,25 +11,13 @@ ghost use Rattle.result_cache.specs.Entries.{AreEntries};
 ghost use Rattle.unit_flow.specs.FlowOf.{flow_of};
 ghost use Rattle.unit_verdicts.specs.ProofLeft.{spelled_entries, spelled_entry};
 
-use crate::analysis::{find_flow, read_invariant};
+use crate::analysis::{find_flow, read_invariant, readable};
 use method_unit::read_unit;
 use proof_files::ProofText;
 use result_cache::Entries;
 use std::alloc::{AllocError, Global};
 use transfer_rules::has_shape;
 use unit_flow::UnitFlow;
-
-/// The bytes, where a reader takes so many: it counts with 31 bits. More are want of memory.
-fn readable(bytes: &[u8]) -> Result<&[u8], AllocError>
-    ensures same { IfOk result (λ read. read.now ≡ bytes.now) }
-    ensures short { IfOk result (λ read. length read.now ≤ 2147483647) }
-{
-    if bytes.len() <= 2_147_483_647 {
-        Ok(bytes)
-    } else {
-        Err(AllocError)
-    }
-}
 
 /// The unit of these bytes with its graph and its kinds.
 fn read_flow(alloc: Global, key: &[u8]) -> Result<UnitFlow, AllocError>
@@ -63,11 +51,11 @@ fn add_unit(
     text.add(alloc, &code, &invariant.states)
 }
 
-/// The text of these entries, of units with the bytes of their invariants. Those whose states have not their unit's shape
-/// are left out.
+/// The text of these entries, of units with the bytes of their invariants. Those whose states have not their unit's
+/// shape are left out.
 ///
-/// Cost: linear in the bytes of the entries and in the text, and what the flow of each unit takes. No two units are held
-/// at once.
+/// Cost: linear in the bytes of the entries and in the text, and what the flow of each unit takes. No two units are
+/// held at once.
 pub fn proof_text<E: Entries>(alloc: Global, entries: &E) -> Result<ProofText, AllocError>
     requires { AreEntries (E.entries entries.now) }
     ensures made { IfOk result (IsMadeOf (spelled_entries (E.entries entries.now))) }

@@ -7,6 +7,7 @@ ghost use Rattle.result_cache.specs.Entries.{invariant_of};
 ghost use Rattle.unit_flow.specs.FlowOf.{flow_of};
 ghost use Rattle.unit_form.specs.Spelling.{unit_bytes};
 ghost use Rattle.unit_verdicts.specs.Asked.{Asks, asked_from};
+ghost use Rattle.unit_verdicts.specs.CacheFile.{held_or_own};
 ghost use Rattle.unit_verdicts.specs.Picks.{entries_in};
 ghost use Rattle.unit_verdicts.specs.VerdictCache.{IsCached, IsHeldFor};
 
@@ -35,6 +36,17 @@ impl Source {
         match self {
             Source::Cache(cache) => cache.get(key),
             Source::Proof(_) => None,
+        }
+    }
+
+    /// The bytes of the invariant under which the unit of these bytes is judged: those that a cache file holds for it, or
+    /// else its own.
+    pub fn held_or_own<'a>(&'a self, key: &[u8], own: &'a [u8]) -> &'a [u8]
+        ensures { result.now ≡ held_or_own (entries_in self.now) key.now own.now }
+    {
+        match self.cached(key) {
+            Some(held) => held,
+            None => own,
         }
     }
 

@@ -7,18 +7,19 @@ ghost use Rattle.proof_files.specs.Held.{entries_told};
 ghost use Rattle.proof_files.specs.Proofs.{AreEntries};
 ghost use Rattle.result_cache.specs.Entries.{AreShort, is_among};
 ghost use Rattle.result_cache.specs.Spelling.{IsCacheFile, kept};
+ghost use Rattle.unit_flow.specs.Flow.{IsLawful};
 ghost use Rattle.unit_flow.specs.FlowOf.{flow_of};
 ghost use Rattle.unit_form.specs.Spelling.{unit_bytes};
-ghost use Rattle.unit_form.specs.declared.form.UnitForm.TheVariants.{Second};
+ghost use Rattle.result_cache.specs.declared.cache_form.CacheForm.TheVariants.{Second};
 ghost use Rattle.unit_verdicts.specs.Asked.{Asks, asked_from, unseen};
 ghost use Rattle.unit_verdicts.specs.CacheFile.{AreHonest, IsHonestFile, cache_left, entries_used};
-ghost use Rattle.unit_verdicts.specs.Picks.{entries_in};
+ghost use Rattle.unit_verdicts.specs.Picks.{entries_in, pick_from};
 ghost use Rattle.unit_verdicts.specs.ProofLeft.{IsProofLeft, proof_left};
 ghost use Rattle.unit_verdicts.specs.VerdictCache.{IsCached, manner_of, proof_units};
 ghost use Rattle.unit_verdicts.specs.Verdicts.{AreVerdictsOf};
 ghost use Rattle.unit_verdicts.specs.declared.source.Source.TheVariants.{Cache as OfCache};
 
-use crate::analysis::{CachedUnit, JudgedUnit, find_flow};
+use crate::analysis::{CachedUnit, JudgedUnit, PickedUnit, find_flow, read_invariant, readable};
 use crate::proof_left::proof_text;
 use crate::proved_units::ProvedUnits;
 use crate::source::Source;
@@ -30,12 +31,13 @@ use result_cache::{Cache, Entries, cache_bytes};
 use stack_typer::TypedUnit;
 use std::alloc::{AllocError, Global};
 use std::marker::Model;
+use transfer_rules::Invariant;
 use unit_flow::UnitFlow;
 use widening_engine::Finder;
 
 /// The verdicts on each unit that was judged, by the bytes of its file, beside what is held of the cache file or proof
-/// file that was read. Contracts see the entries of that, the bytes of the units in the order in which they came, whether
-/// invariants are shown, and whether a file is to be left.
+/// file that was read. Contracts see the entries of that, the bytes of the units in the order in which they came,
+/// whether invariants are shown, and whether a file is to be left.
 #[derive(Drop)]
 pub struct VerdictCache {
     show: bool,
@@ -172,7 +174,7 @@ impl VerdictCache {
         requires unit { IsUnit unit }
         requires key { key.items ≡ unit_bytes unit }
         requires new { is_among self.old.keys key.items ≡ false }
-        ensures callees { IfOk result (λ judged. judged.callees ≡ unit.callees) }
+        ensures unit { IfOk result (λ judged. judged.unit ≡ unit) }
         ensures value { IfOk result (λ judged. AreVerdictsOf (manner_of self.old) unit judged.found) }
         ensures keys { OnOk result (self.new.keys ≡ self.old.keys ++ key.items ∷ []) }
         ensures show { self.new.show ≡ self.old.show }
@@ -186,14 +188,14 @@ impl VerdictCache {
         let found = judged.found.copy(alloc)?;
         self.note(key, judged)?;
         Ok(JudgedUnit {
-            callees: code.unit.callees,
+            unit: code.unit,
             found,
         })
     }
 
     /// Judges a unit: under what the cache file holds for it, or else under what the finder answers, and over a proof
-    /// file under what that states of it, or else under the states of no blocks. The finder is asked only where no equal
-    /// unit was judged before, and over a proof file never.
+    /// file under what that states of it, or else under the states of no blocks. The finder is asked only where no
+    /// equal unit was judged before, and over a proof file never.
     ///
     /// Cost: the unit's bytes are kept, with its verdicts, with the text of its invariant where that is shown, and with
     /// the bytes of it where a file is to be left and the cache file that was read has none.
@@ -204,7 +206,7 @@ impl VerdictCache {
         finder: &mut D,
     ) -> Result<JudgedUnit, AllocError>
         requires { IsUnit unit }
-        ensures callees { IfOk result (λ judged. judged.callees ≡ unit.callees) }
+        ensures unit { IfOk result (λ judged. judged.unit ≡ unit) }
         ensures value { IfOk result (λ judged. AreVerdictsOf (manner_of self.old) unit judged.found) }
         ensures keys { OnOk result (self.new.keys ≡ self.old.keys ++ unseen self.old.keys (unit_bytes unit ∷ [])) }
         ensures show { self.new.show ≡ self.old.show }
@@ -217,11 +219,104 @@ impl VerdictCache {
         if let Some(known) = self.get(&key) {
             let found = known.copy(alloc)?;
             return Ok(JudgedUnit {
-                callees: unit.into_unit().callees,
+                unit: unit.into_unit(),
                 found,
             });
         }
         self.judge_new(alloc, unit, key, finder)
+    }
+
+    /// The invariant under which the unit of these bytes was judged, of which this is kept.
+    fn invariant(
+        &self,
+        alloc: Global,
+        key: &[u8],
+        unit: &CachedUnit,
+    ) -> Result<Invariant, AllocError>
+        requires keeps { self.now.keeps ≡ true }
+        requires cached { IsCached self.now.show self.now.keeps self.now.held key.now unit.now }
+        ensures { IfOk result (λ invariant. invariant.states.items ≡ pick_from self.now.held (unit_of key.now)) }
+    {
+        let bytes = self.held.held_or_own(key, &unit.invariant);
+        read_invariant(alloc, readable(bytes)?)
+    }
+
+    /// The same by the bytes alone, if the unit was judged.
+    fn picked(&self, alloc: Global, key: &[u8]) -> Result<Option<Invariant>, AllocError>
+        requires keeps { self.now.keeps ≡ true }
+        ensures there { IfOk result (λ found. is_some found ≡ is_among self.now.keys key.now) }
+        ensures value { IfOk result (λ found. IfSome found
+            (λ invariant. invariant.states.items ≡ pick_from self.now.held (unit_of key.now))) }
+    {
+        let Some(unit) = self.judged.get(key) else {
+            return Ok(None);
+        };
+        let invariant = self.invariant(alloc, key, unit)?;
+        Ok(Some(invariant))
+    }
+
+    /// Judges a unit of these bytes that was not judged before, and answers the invariant under which it is judged.
+    fn pick_new<D: Finder>(
+        &mut self,
+        alloc: Global,
+        code: &UnitFlow,
+        key: Vec<u8>,
+        finder: &mut D,
+    ) -> Result<Invariant, AllocError>
+        requires unit { IsUnit code.now.unit }
+        requires flow { code.now ≡ flow_of code.now.unit }
+        requires key { key.items ≡ unit_bytes code.now.unit }
+        requires keeps { self.old.keeps ≡ true }
+        requires new { is_among self.old.keys key.items ≡ false }
+        ensures value { IfOk result
+            (λ invariant. invariant.states.items ≡ pick_from self.old.held (unit_of key.items)) }
+        ensures keys { OnOk result (self.new.keys ≡ self.old.keys ++ key.items ∷ []) }
+        ensures show { self.new.show ≡ self.old.show }
+        ensures keeps { self.new.keeps ≡ self.old.keeps }
+        ensures held { self.new.held ≡ self.old.held }
+        ensures asked { Asks (asked_from self.old.held (key.items ∷ [])) result
+            (D.asked finder.old) (D.asked finder.new) }
+    {
+        let judged = self.judge_code(alloc, code, &key, finder)?;
+        let invariant = self.invariant(alloc, &key, &judged)?;
+        self.note(key, judged)?;
+        Ok(invariant)
+    }
+
+    /// The invariant under which a unit is judged. A unit that was not judged before is judged, so that the finder is
+    /// asked for its invariant at most once in a call.
+    ///
+    /// # Errors
+    ///
+    /// Want of memory.
+    ///
+    /// Cost: what `judge` costs of a unit that was not judged before. The invariant is read of its bytes each time.
+    pub fn pick<D: Finder>(
+        &mut self,
+        alloc: Global,
+        unit: TypedUnit,
+        finder: &mut D,
+    ) -> Result<PickedUnit, AllocError>
+        requires unit { IsUnit unit }
+        requires keeps { self.old.keeps ≡ true }
+        ensures code { IfOk result (λ picked. picked.code ≡ flow_of unit) }
+        ensures unit { IfOk result (λ picked. picked.code.unit ≡ unit) }
+        ensures lawful { IfOk result (λ picked. IsLawful picked.code) }
+        ensures value { IfOk result (λ picked. picked.invariant.states.items ≡ pick_from self.old.held unit) }
+        ensures keys { OnOk result (self.new.keys ≡ self.old.keys ++ unseen self.old.keys (unit_bytes unit ∷ [])) }
+        ensures show { self.new.show ≡ self.old.show }
+        ensures keeps { self.new.keeps ≡ self.old.keeps }
+        ensures held { self.new.held ≡ self.old.held }
+        ensures asked { Asks (asked_from self.old.held (unseen self.old.keys (unit_bytes unit ∷ []))) result
+            (D.asked finder.old) (D.asked finder.new) }
+    {
+        let key = unit_bytes(alloc, unit.unit())?;
+        let code = find_flow(alloc, unit)?;
+        if let Some(invariant) = self.picked(alloc, &key)? {
+            return Ok(PickedUnit { code, invariant });
+        }
+        let invariant = self.pick_new(alloc, &code, key, finder)?;
+        Ok(PickedUnit { code, invariant })
     }
 
     /// The cache file to be left: the units that were judged, in the order in which they came, each with the invariant
@@ -283,9 +378,7 @@ impl Entries for VerdictCache {
         let Some((key, unit)) = self.judged.get_index(place) else {
             return None;
         };
-        match self.held.cached(key) {
-            Some(invariant) => Some((key.as_slice(), invariant)),
-            None => Some((key.as_slice(), unit.invariant.as_slice())),
-        }
+        let invariant = self.held.held_or_own(key, &unit.invariant);
+        Some((key.as_slice(), invariant))
     }
 }

@@ -23,6 +23,7 @@ use Rattle.flow_graph.specs.BlocksOf.{block_at, blocks_of}
 use Rattle.flow_graph.specs.EdgesOf.{edge_to, edges_from, edges_out, edges_to}
 use Rattle.unit_flow.specs.Flow.{IsLawful}
 use Rattle.unit_flow.specs.declared.unit_flow.UnitFlow.{UnitFlow}
+use Rattle.unit_form.proofs.AddedClauses.{may_be_added}
 use Rattle.unit_form.specs.Spelling.{HasFields}
 use Rattle.widening_engine.specs.Flows.{AreNumbered}
 use Rattle.widening_engine.specs.Limits.{unit_flow}
@@ -213,4 +214,5 @@ spelled code lawful =
         last_in_order 0 (length code.unit.callees) (filter_map (λ i. called_by i.op) code.unit.instrs) formed.order,
       );
       code = formed.limits.code;
+      added = may_be_added code.unit formed;
     }

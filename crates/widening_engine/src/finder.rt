@@ -54,8 +54,8 @@ fn known(alloc: Global, states: Vec<UnitState>) -> Result<Vec<AbsState>, NoMemor
     states.into_iter().map(|a| a.state).collect(alloc)
 }
 
-/// The states where the analysis of a unit settles, one for each block. The unit then counts as asked for. In each round
-/// every edge is computed, or those whose source has changed.
+/// The states where the analysis of a unit settles, one for each block. The unit then counts as asked for. In each
+/// round every edge is computed, or those whose source has changed.
 pub(crate) fn find_invariant(
     alloc: Global,
     code: &UnitFlow,

@@ -2,10 +2,10 @@ use Rattle.std.proofs.Common.{Bool, ℕ, ap, if◌then◌else◌, ◌∙◌}
 use Rattle.std.specs.List.{list_all}
 use Rattle.unit_builder.specs.Outcomes.{entries_of}
 use Rattle.unit_verdicts.specs.Picks.{limit_pick}
-use Rattle.check_driver.specs.CheckText.{is_proved}
-use Rattle.check_driver.specs.Findings.{finding_in}
+use Rattle.assembly_reports.specs.CheckText.{is_proved}
+use Rattle.assembly_reports.specs.Findings.{finding_in}
 use Rattle.answer_lines.proofs.SingleLines.{summary_is_line}
-use Rattle.check_driver.proofs.ReportLines.{found_are_proved}
+use Rattle.assembly_reports.proofs.ReportedLines.{found_are_proved}
 use Rattle.check_driver.proofs.gen_answer.summarise.Goals as goal
 
 pub returns-clause-status : goal.returns-clause-status

@@ -1,13 +1,13 @@
-use Rattle.std.proofs.Common.{◌≡◌, ℕ, ◌+◌, get_or, length, Ok, refl, ◌∙◌}
+use Rattle.std.proofs.Common.{get_or, Ok, refl, ◌∙◌}
 use Rattle.std.proofs.lemmas.Result.{err_from_is_err_and}
 use Rattle.answer_lines.specs.Writing.{Writes}
-use Rattle.command_words.specs.Words.{word_at, words_bytes}
+use Rattle.command_words.specs.Words.{words_bytes}
 use Rattle.unit_verdicts.specs.Asked.{Asks}
 use Rattle.unit_verdicts.specs.VerdictCache.{manner_of}
 use Rattle.unit_verdicts.proofs.Asking.{asks_all, asks_front}
-use Rattle.check_driver.specs.Asked.{judged_keys}
-use Rattle.check_driver.specs.LinkedReports.{entries_at, reported_from}
-use Rattle.check_driver.proofs.Judging.{asked_more, asks_for_none, asks_later, front_of_first, judged_more}
+use Rattle.assembly_reports.specs.JudgedUnits.{judged_keys}
+use Rattle.assembly_reports.specs.Reportable.{entries_at}
+use Rattle.assembly_reports.proofs.Judging.{asked_more, asks_for_none, asks_later, front_of_first, judged_more}
 use Rattle.check_driver.proofs.LinkedAnswers.{entries_is, first_begun, head_is, more_begun, no_index, reported_is, writes_both, writes_later_stop, writes_nothing, writes_stop}
 use Rattle.check_driver.proofs.linked_answer.+answer_files.Goals as goal
 

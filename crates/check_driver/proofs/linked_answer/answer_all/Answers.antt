@@ -1,4 +1,4 @@
-use Rattle.std.proofs.Common.{◌≡◌, ℕ, ◌<◌, List, [], length, get_or, refl, sym, ap, ◌∙◌, subst, arith}
+use Rattle.std.proofs.Common.{◌≡◌, ◌<◌, [], length, get_or, refl, sym, ap, ◌∙◌, arith}
 use Rattle.std.proofs.lemmas.List.{get_or-map, length-map}
 use Rattle.answer_lines.specs.Answers.{refused_line}
 use Rattle.answer_lines.proofs.Writings.{gives_error}
@@ -6,10 +6,10 @@ use Rattle.assembly_answers.specs.FaultText.{assembly_fault_text}
 use Rattle.assembly_answers.proofs.PlainFaults.{assembly_fault_plain}
 use Rattle.command_words.specs.Words.{word_at, words_bytes}
 use Rattle.unit_verdicts.specs.VerdictCache.{manner_of}
-use Rattle.check_driver.specs.Asked.{with_judged}
+use Rattle.assembly_reports.specs.JudgedUnits.{with_judged}
 use Rattle.check_driver.specs.CallRead.{files_of, names_of}
 use Rattle.check_driver.proofs.CheckParts.{if_ok, where_ok}
-use Rattle.check_driver.proofs.Judging.{asks_for_none, judged_none}
+use Rattle.assembly_reports.proofs.Judging.{asks_for_none, judged_none}
 use Rattle.check_driver.proofs.LinkedAnswers.{answer_refused_as, gives_links, no_keys, refused_runnable}
 use Rattle.check_driver.proofs.SeveralFiles.{asks_is, gives_is}
 use Rattle.check_driver.proofs.linked_answer.answer_all.Goals as goal

@@ -1,18 +1,14 @@
-use Rattle.std.proofs.Common.{◌≡◌, List, ℕ, length, zip, if◌then◌else◌, sym, ap, subst, ◌∙◌}
+use Rattle.std.proofs.Common.{◌≡◌, List, ℕ, length, if◌then◌else◌, sym, subst, ◌∙◌}
 use Rattle.std.specs.Prelude.{IfOk, OnOk}
-use Rattle.std.specs.List.{AllByRecursion, flat_map}
 use Rattle.std.proofs.lemmas.List.{length-map}
 use Rattle.answer_lines.specs.Answers.{Answer}
 use Rattle.answer_lines.specs.Writing.{Writes, change_of}
 use Rattle.command_words.specs.Words.{word_at, words_bytes}
-use Rattle.unit_builder.specs.FileSets.{FileSet, Several}
-use Rattle.unit_builder.specs.Linked.{linked_entries}
 use Rattle.unit_verdicts.specs.Asked.{Asks}
-use Rattle.unit_verdicts.specs.Picks.{pick_from}
 use Rattle.unit_verdicts.specs.VerdictCache.{manner_of}
-use Rattle.check_driver.specs.Asked.{asked_for, judged_keys, linked_keys, with_judged}
+use Rattle.assembly_reports.specs.JudgedUnits.{asked_for, with_judged}
 use Rattle.check_driver.specs.CallRead.{names_of}
-use Rattle.check_driver.specs.LinkedReports.{CanRun, ReportedFile, ReportsBegun, are_all_proved, entries_from, file_reports, reported_from}
+use Rattle.check_driver.specs.LinkedReports.{ReportedFile, ReportsBegun, are_all_proved, file_reports}
 use Rattle.check_driver.proofs.LinkedAnswers.{all_keys, all_reported_by, answer_is, if_weaker, runnable_by}
 use Rattle.check_driver.proofs.linked_answer.answer_links.Goals as goal
 

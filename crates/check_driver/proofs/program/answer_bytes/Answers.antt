@@ -1,11 +1,11 @@
-use Rattle.std.proofs.Common.{if◌then◌else◌, ◌∙◌, inl, refl}
+use Rattle.std.proofs.Common.{false, if◌then◌else◌, ◌∙◌}
 use Rattle.answer_lines.proofs.Writings.{gives_output}
 use Rattle.command_words.specs.Words.{words_bytes}
 use Rattle.unit_verdicts.specs.Picks.{limit_pick}
 use Rattle.unit_verdicts.proofs.Asking.{asks_none}
 use Rattle.written_assemblies.specs.GeneratedFiles.{generated_file}
 use Rattle.check_driver.specs.CallRead.{cache_of, files_of}
-use Rattle.check_driver.specs.CheckText.{all_methods_proved, summary_text}
+use Rattle.assembly_reports.specs.CheckText.{all_methods_proved, summary_text}
 use Rattle.check_driver.proofs.Answering.{only_file}
 use Rattle.check_driver.proofs.BytesParts.{check_words_answered, gen_answered, linked_words_answered, run_answered, unit_answered, verify_answered}
 use Rattle.check_driver.proofs.program.answer_bytes.Goals as goal
@@ -29,7 +29,7 @@ returns-in-Check-clause-answer g c =
     c.answer_check.ensures.answer c.answer_check.ensures.left)
 
 pub returns-in-Check-clause-begun : goal.returns-in-Check-clause-begun
-returns-in-Check-clause-begun g c = rw c.in-Check.is (_, rw (rw c.in-Check.is at c.requires.called.indexes) at c.answer_check.ensures.begun)
+returns-in-Check-clause-begun g c = rw c.in-Check.is (rw (rw c.in-Check.is at c.requires.called.indexes) at c.answer_check.ensures.begun)
 
 pub returns-in-Linked-clause-answer : goal.returns-in-Linked-clause-answer
 returns-in-Linked-clause-answer g c =
@@ -62,5 +62,5 @@ returns-in-Gen-clause-answer g c =
     let bytes = generated_file c.in-Gen.seed c.in-Gen.count in
     rw c.in-Gen.is
     (gen_answered (words_bytes c.args.given.now.words.now) (cache_of c.args.given.now) (files_of c.args.given.now) _ c.answer_gen.result _ _ _ c.in-Gen.seed c.in-Gen.count
-    (gives_output (if all_methods_proved limit_pick bytes then 0 else 1) (summary_text limit_pick bytes) c.answer_gen.result _
+    (gives_output (if all_methods_proved false limit_pick bytes then 0 else 1) (summary_text limit_pick bytes) c.answer_gen.result _
     (g.E.Sink.written c.args.err.now) (g.E.Sink.puts c.args.err.now) (g.E.Sink.faults c.args.err.now) c.answer_gen.ensures.status c.answer_gen.ensures.written))

@@ -76,7 +76,8 @@ returns-in-Ok-clause-memory g c = AnswersBytes.memory c.answer_bytes.ensures.ans
 pub returns-in-Ok-clause-begun : goal.returns-in-Ok-clause-begun
 returns-in-Ok-clause-begun g c =
     let met = c.in-Ok.ensures.read in
-    held_checked (g.F.Files.held c.args.files.now) c.args.command (words_bytes c.args.words.now) met.0.files c.in-Ok.inputs.files.items _ _ (IsMet.files met.1) met.2.0
+    held_checked (g.F.Files.held c.args.files.now) c.args.command (words_bytes c.args.words.now) met.0.files c.in-Ok.inputs.files.items met.0.cache c.in-Ok.inputs.cache _ _
+    (IsMet.files met.1) met.2.0 (IsMet.cache met.1) met.2.1
     (rw c.deref-in-Ok-2.ensures.value at c.answer_bytes.ensures.begun)
 
 pub returns-in-Ok-clause-linked : goal.returns-in-Ok-clause-linked

@@ -11,9 +11,9 @@ use Rattle.check_driver.specs.LinkedHeadline.{AreLinkedOf}
 use Rattle.check_driver.proofs.Asking.{leaves_asked}
 use Rattle.check_driver.proofs.CallLeft.{leaves_plainly, unread_cause, unwritten_cause}
 use Rattle.check_driver.proofs.CallEnds.{cache_alike, kept_honest, leaves_files, same_without}
-use Rattle.check_driver.proofs.CheckedSafety.{section_safe}
+use Rattle.check_driver.proofs.CheckedSafety.{section_safe, section_with_inferred}
 use Rattle.check_driver.proofs.ConfirmedReports.{confirms_reports}
-use Rattle.check_driver.proofs.HeadlineSafety.{headline_keeps, headline_safe}
+use Rattle.check_driver.proofs.HeadlineSafety.{headline_inferred, headline_keeps, headline_safe}
 use Rattle.check_driver.proofs.LinkedAlike.{linked_cache_alike}
 use Rattle.check_driver.proofs.LinkedBegun.{begun_of}
 use Rattle.check_driver.proofs.LinkedSafety.{linked_keeps, linked_safe}
@@ -101,6 +101,12 @@ returns-clause-keeps g c = λ held k bytes text method told assembly appended ha
     headline_keeps (g.F.Files.held c.args.files.now) (words_bytes c.args.words.now) held k bytes text (written c.args.out.now) (written c.answer_words-answered.new.out)
     (record { told_is = told; assembly = assembly; begun = c.answer_words-answered.ensures.begun; appended = appended }) method has all
 
+pub returns-clause-inferred : goal.returns-clause-inferred
+returns-clause-inferred g c = λ held k bytes text method told assembly appended has all so.
+    let written = g.O.Sink.written in
+    headline_inferred (g.F.Files.held c.args.files.now) (words_bytes c.args.words.now) held k bytes text (written c.args.out.now) (written c.answer_words-answered.new.out)
+    (record { told_is = told; assembly = assembly; begun = c.answer_words-answered.ensures.begun; appended = appended }) method has all so
+
 pub returns-clause-linked : goal.returns-clause-linked
 returns-clause-linked g c = λ held all k bytes text method told are appended at has tell.
     let words = words_bytes c.args.words.now in
@@ -157,7 +163,13 @@ returns-clause-usage g c = λ is.
     usage_only words answer.0 (read_names words) _ _ c.answer_words-answered.result _ _ answer.2 (sym c.finish.ensures.status ∙ is)
 
 pub returns-clause-checked : goal.returns-clause-checked
-returns-clause-checked g c = λ held k bytes text method told assembly appended has line.
+returns-clause-checked g c = λ held k bytes text method told assembly appended has line so.
     let written = g.O.Sink.written in
     section_safe (g.F.Files.held c.args.files.now) (words_bytes c.args.words.now) held k bytes text (written c.args.out.now) (written c.answer_words-answered.new.out)
-    (record { told_is = told; assembly = assembly; begun = c.answer_words-answered.ensures.begun; appended = appended }) method has line
+    (record { told_is = told; assembly = assembly; begun = c.answer_words-answered.ensures.begun; appended = appended }) so method has line
+
+pub returns-clause-checked_inferred : goal.returns-clause-checked_inferred
+returns-clause-checked_inferred g c = λ held k bytes text method told assembly appended has line so.
+    let written = g.O.Sink.written in
+    section_with_inferred (g.F.Files.held c.args.files.now) (words_bytes c.args.words.now) held k bytes text (written c.args.out.now) (written c.answer_words-answered.new.out)
+    (record { told_is = told; assembly = assembly; begun = c.answer_words-answered.ensures.begun; appended = appended }) so method has line

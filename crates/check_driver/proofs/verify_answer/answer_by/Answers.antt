@@ -1,4 +1,4 @@
-use Rattle.std.proofs.Common.{◌≡◌, ℕ, [], Some, None, if◌then◌else◌, false, refl, ap, arith}
+use Rattle.std.proofs.Common.{[], Some, None, if◌then◌else◌, false, refl, ap, arith}
 use Rattle.std.proofs.lemmas.Result.{err_from_is_err_and}
 use Rattle.cc_base.proofs.CountLemmas.{Kept-refl}
 use Rattle.answer_lines.specs.Answers.{refused_line}
@@ -7,12 +7,12 @@ use Rattle.proof_files.specs.Held.{entries_told}
 use Rattle.proof_files.specs.Reading.{Refused, Whole}
 use Rattle.unit_builder.specs.Outcomes.{entries_of}
 use Rattle.unit_verdicts.specs.Picks.{pick_from}
-use Rattle.unit_verdicts.specs.VerdictCache.{CachedUnits, manner_of, manner_under}
+use Rattle.unit_verdicts.specs.VerdictCache.{CachedUnits, manner_under}
 use Rattle.unit_verdicts.specs.declared.source.Source.TheVariants.{Proof as OfProof}
-use Rattle.check_driver.specs.Asked.{judged_keys}
-use Rattle.check_driver.specs.CheckText.{all_methods_proved, check_text}
+use Rattle.assembly_reports.specs.JudgedUnits.{judged_keys}
+use Rattle.assembly_reports.specs.CheckText.{all_methods_proved, check_text}
 use Rattle.check_driver.specs.ProofText.{proof_fault_at, proof_fault_text}
-use Rattle.check_driver.proofs.Judging.{asks_by_proof}
+use Rattle.assembly_reports.proofs.Judging.{asks_by_proof}
 use Rattle.check_driver.proofs.SeveralFiles.{begun_none}
 use Rattle.check_driver.proofs.Statuses.{status_below}
 use Rattle.check_driver.proofs.VerifyParts.{begun_written, few_memory, proof_fault_plain}
@@ -34,7 +34,7 @@ returns-in-Err-Bad-clause-answer g c =
     )
 
 pub returns-in-Err-Bad-clause-begun : goal.returns-in-Err-Bad-clause-begun
-returns-in-Err-Bad-clause-begun g c = (manner_under false (OfProof []), begun_none _ _ _ _ refl)
+returns-in-Err-Bad-clause-begun g c = (manner_under false (OfProof []), begun_none _ _ _ _ _ refl)
 
 pub returns-in-Err-Bad-clause-memory : goal.returns-in-Err-Bad-clause-memory
 returns-in-Err-Bad-clause-memory g c = status_below 5 7 c.answer_refused.result (omega arith) c.answer_refused.ensures.status
@@ -45,7 +45,7 @@ pub returns-in-Err-NoMemory-clause-answer : goal.returns-in-Err-NoMemory-clause-
 returns-in-Err-NoMemory-clause-answer g c = (None, tt, gives_no_memory _ _ _ refl refl (Kept-refl _) (Kept-refl _))
 
 pub returns-in-Err-NoMemory-clause-begun : goal.returns-in-Err-NoMemory-clause-begun
-returns-in-Err-NoMemory-clause-begun g c = (manner_under false (OfProof []), begun_none _ _ _ _ refl)
+returns-in-Err-NoMemory-clause-begun g c = (manner_under false (OfProof []), begun_none _ _ _ _ _ refl)
 
 pub returns-in_err-units-in-Ok-clause-answer : goal.returns-in_err-units-in-Ok-clause-answer
 returns-in_err-units-in-Ok-clause-answer g c =
@@ -53,9 +53,12 @@ returns-in_err-units-in-Ok-clause-answer g c =
     (None, tt, rw (p.1, p.2) (gives_no_memory _ _ _ refl refl (Kept-refl _) (Kept-refl _)))
 
 pub returns-in_err-units-in-Ok-clause-begun : goal.returns-in_err-units-in-Ok-clause-begun
-returns-in_err-units-in-Ok-clause-begun g c = (manner_under false (OfProof []), begun_none _ _ _ _ refl)
+returns-in_err-units-in-Ok-clause-begun g c = (manner_under false (OfProof []), begun_none _ _ _ _ _ refl)
 
 -- ---- the report
+
+pub answer_assembly-requires : goal.answer_assembly-requires
+answer_assembly-requires g c = record { keeps = λ never. absurd cc }
 
 pub returns-in_ok-units-in-Ok-clause-answer : goal.returns-in_ok-units-in-Ok-clause-answer
 returns-in_ok-units-in-Ok-clause-answer g c =
@@ -63,7 +66,7 @@ returns-in_ok-units-in-Ok-clause-answer g c =
     let units = c.in_ok-units-in-Ok.ensures in (
       Some (Whole entries),
       c.in-Ok.ensures.ok,
-      gives_output (if all_methods_proved (pick_from (OfProof entries)) c.args.assembly.now then 0 else 1) (check_text c.args.name.now (manner_under false (OfProof entries)) c.args.assembly.now)
+      gives_output (if all_methods_proved false (pick_from (OfProof entries)) c.args.assembly.now then 0 else 1) (check_text false c.args.name.now (manner_under false (OfProof entries)) c.args.assembly.now)
           c.answer_assembly.result _ (g.E.Sink.written c.args.err.now) (g.E.Sink.puts c.args.err.now) (g.E.Sink.faults c.args.err.now)
           (rw units at c.answer_assembly.ensures.status) (rw units at c.answer_assembly.ensures.written),
     )

@@ -30,7 +30,7 @@ returns-in-Err-Bad-clause-answer g c =
     )
 
 pub returns-in-Err-Bad-clause-begun : goal.returns-in-Err-Bad-clause-begun
-returns-in-Err-Bad-clause-begun g c = (manner_under false (OfProof []), begun_none _ _ _ _ refl)
+returns-in-Err-Bad-clause-begun g c = (manner_under false (OfProof []), begun_none _ _ _ _ _ refl)
 
 pub returns-in-Err-Bad-clause-memory : goal.returns-in-Err-Bad-clause-memory
 returns-in-Err-Bad-clause-memory g c = status_below 5 7 c.answer_refused.result (omega arith) c.answer_refused.ensures.status
@@ -41,7 +41,7 @@ pub returns-in-Err-NoMemory-clause-answer : goal.returns-in-Err-NoMemory-clause-
 returns-in-Err-NoMemory-clause-answer g c = (None, tt, gives_no_memory _ _ _ refl refl (Kept-refl _) (Kept-refl _))
 
 pub returns-in-Err-NoMemory-clause-begun : goal.returns-in-Err-NoMemory-clause-begun
-returns-in-Err-NoMemory-clause-begun g c = (manner_under false (OfProof []), begun_none _ _ _ _ refl)
+returns-in-Err-NoMemory-clause-begun g c = (manner_under false (OfProof []), begun_none _ _ _ _ _ refl)
 
 -- ---- it is accepted
 

@@ -10,9 +10,9 @@ returns c =
     record {
       judged =
           made_as (fields_told c.args.fields) _ _ c.of.ensures
-          (made (fields_told c.args.fields) c.deref.result.now _ _ _
+          (made (fields_told c.args.fields) c.deref.result.now _ _ _ _ _
           (λ i. record { result = c.args.fields.result; args = c.from_vec.ensures i; locals = c.from_vec-2.ensures i; max_stack = c.args.fields.max_stack; callees = c.from_vec-3.ensures i })
-          c.deref-2.ensures.value c.in_ok-instrs.ensures.judged.0 (c.deref.ensures.value ∙ c.in_ok-instrs.ensures.judged.1)
+          c.deref-2.ensures.value c.deref-3.ensures.value c.in_ok-instrs.ensures.judged.0 (c.deref.ensures.value ∙ c.in_ok-instrs.ensures.judged.1)
           (subst (λ (is : List Instr). CodeOf is c.args.fields.code.now) (sym c.deref.ensures.value) c.in_ok-instrs.ensures.found.spelled)
           (record {
             passed = c.in_ok-tested.ensures.judged.0;
@@ -31,6 +31,7 @@ returns c =
             callees = c.from_vec-3.ensures;
             code = c.from_vec-5.ensures ∙ c.in_ok-from_slice-2.ensures.items;
             instrs = c.from_vec-6.ensures ∙ sym c.deref.ensures.value;
+            clauses = c.in_ok-with_added.ensures;
           }));
     }
 

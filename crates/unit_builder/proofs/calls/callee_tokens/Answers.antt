@@ -1,4 +1,4 @@
-use Rattle.std.proofs.Common.{◌-◌, ◌∙◌, sym, ap, arith}
+use Rattle.std.proofs.Common.{rules, ◌-◌, ◌∙◌, sym, ap, arith}
 use Rattle.unit_builder.specs.declared.entry.MethodEntry.{MethodEntry}
 use Rattle.unit_builder.proofs.CallFacts.{body_told, index_there, row_is}
 use Rattle.unit_builder.specs.Met.{first_method}
@@ -18,5 +18,5 @@ returns c = λ method there entry.
     let token = ap (λ (e : MethodEntry). e.token.0) entry in
     let same = row_is c.args.assembly.now c.methods.result.now c.saturating_sub-index.result c.in-Some.method.now method c.methods.ensures.methods
     (c.saturating_sub-index.ensures ∙ ap (λ n. n - first_method) token) at.1 c.in-Some.ensures.lookup.1 in
-    body_told c.callees_in.result c.args.assembly.now c.in-Some.method.now method c.in-Analysed.field-0 same
-    (sym (ap (λ (e : MethodEntry). e.outcome) entry) ∙ c.in-Analysed.is) c.callees_in.ensures.value
+    body_told c.tokens_of.result c.args.assembly.now c.in-Some.method.now method c.in-Analysed.field-0 c.in_ok-keys.keys.items same
+    (sym (ap (λ (e : MethodEntry). e.outcome) entry) ∙ c.in-Analysed.is) c.in_ok-keys.ensures.value (search rules)

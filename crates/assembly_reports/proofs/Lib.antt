@@ -1,0 +1,22 @@
+pub mod Members
+pub mod Judging
+pub mod KeysAsked
+pub mod ReportedLines
+pub mod FindAll
+pub mod Reported
+pub mod ShownLines
+pub mod ReportTexts
+pub mod FewMethods
+pub mod CountedTexts
+pub mod FoundWithin
+pub mod PrintedMethods
+pub mod PrintedSafety
+pub mod LinesOf
+pub mod SectionLemmas
+mod SectionExamples
+pub mod NamedMethods
+pub mod InferredWorlds
+pub mod InferredUnits
+pub mod StrengthenedUnits
+pub mod InferredEntries
+pub mod InferredReports
