@@ -34,7 +34,7 @@ fn sum_of(a: i64, b: i64) -> i128
 }
 
 /// A number of 64 bits.
-fn wide(n: i64) -> i128
+pub(crate) fn wide(n: i64) -> i128
     ensures value { result ≡ n }
     ensures bound { IsSum result }
     ensures small { FitsSigned w32 n → IsCut result }
@@ -106,7 +106,7 @@ fn inner_hole(lo: i128, hi: i128, hole: Option<i64>) -> Option<i128>
 
 /// The numbers between two ends but for a hole, which moves an end that it meets.
 #[tactic(auto, unfolding(crate::specs::Ends::met))]
-fn met(lo: i128, hi: i128, hole: Option<i64>) -> Span
+pub(crate) fn met(lo: i128, hi: i128, hole: Option<i64>) -> Span
     requires low { IsSum lo }
     requires high { IsSum hi }
     ensures value { result ≡ rule.met lo hi hole }
@@ -124,7 +124,7 @@ fn met(lo: i128, hi: i128, hole: Option<i64>) -> Span
 impl Numbers {
     /// The upper end of a symbol, cut by a bound that goes from it.
     #[tactic(auto, using(crate::proofs::Small::narrow_ends))]
-    fn lowered_by(&self, hi: i128, row: &BoundRow) -> i128
+    pub(crate) fn lowered_by(&self, hi: i128, row: &BoundRow) -> i128
         requires { IsSum hi }
         ensures value { result ≡ rule.lowered_by self.now hi row.now }
         ensures bound { IsSum result }
@@ -139,7 +139,7 @@ impl Numbers {
 
     /// The lower end of a symbol, raised by a bound that goes to it.
     #[tactic(auto, using(crate::proofs::Small::narrow_ends))]
-    fn raised_by(&self, lo: i128, row: &BoundRow) -> i128
+    pub(crate) fn raised_by(&self, lo: i128, row: &BoundRow) -> i128
         requires { IsSum lo }
         ensures value { result ≡ rule.raised_by self.now lo row.now }
         ensures bound { IsSum result }

@@ -3,7 +3,7 @@ use Rattle.std.specs.List.{AllByRecursion, range_with_len}
 use Rattle.number_spans.specs.Sizes.{IsLong, IsLongHole}
 use Rattle.number_spans.specs.declared.span.Span.{Span}
 use Rattle.number_facts.specs.Ends.{span_at}
-use Rattle.number_facts.proofs.numbers.Numbers.spans.Given as goal
+use Rattle.number_facts.proofs.numbers.Numbers.met_all.Given as goal
 
 -- The spans of the symbols so far.
 abbrev pub invariant-loop-symbol : goal.invariant-loop-symbol

@@ -1,0 +1,13 @@
+use Rattle.std.proofs.Common.{◌≡◌, length, map}
+use Rattle.std.specs.List.{AllByRecursion, range_with_len}
+use Rattle.number_facts.specs.Ends.{stored_low}
+use Rattle.number_facts.specs.Sizes.{IsSum}
+use Rattle.number_facts.proofs.numbers.Numbers.stored_lows.Given as goal
+
+-- The lower ends of the symbols so far.
+abbrev pub invariant-loop-symbol : goal.invariant-loop-symbol
+invariant-loop-symbol l = record {
+  so_far : l.lows.items ≡ map (stored_low l.self) (range_with_len 0 l.symbol);
+  many : length l.lows.items ≡ l.symbol;
+  sums : AllByRecursion IsSum l.lows.items;
+}
