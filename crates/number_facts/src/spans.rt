@@ -141,7 +141,7 @@ impl Numbers {
     /// The numbers that each symbol may be, by all that is known of it: that of symbol s at place s. Symbol 0 is the
     /// number 0. Where a symbol may be none, the least is above the greatest.
     ///
-    /// Cost: two passes over the symbols and one over the bounds, and memory for two ends of each symbol beside the
+    /// Cost: three passes over the symbols and one over the bounds, and memory for two ends of each symbol beside the
     /// result. `NoMemory` also where there are 2^32 symbols and more.
     pub fn spans(&self, alloc: Global) -> Result<Vec<Span>, NoMemory>
         ensures value { IfOk result (λ spans.
