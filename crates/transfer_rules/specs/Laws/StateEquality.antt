@@ -76,7 +76,8 @@ module _ {A : Type 0} (test : Equality A) where
   exact_lists (x ∷ xs) (y ∷ ys) = (
     λ e. let parts = and_parts (test.equal x y) _ e in
         ap (λ item. item ∷ xs) ((test.exact x y).0 parts.0) ∙ ap (λ rest. y ∷ rest) ((exact_lists xs ys).0 parts.1),
-    λ e. and_both _ _ ((test.exact x y).1 (ap (λ items. head_or items x) e)) ((exact_lists xs ys).1 (ap (λ items. drop 1 items) e)),
+    λ e. and_both _ _ ((test.exact x y).1 (ap (λ items. head_or items x) e))
+        ((exact_lists xs ys).1 (ap (λ items. drop 1 items) e)),
   )
 
   pub of_lists : Equality (List A)
@@ -92,7 +93,8 @@ module _ {A : Type 0} (test : Equality A) where
   exact_options None None = (λ e. refl, λ e. refl)
   exact_options None (Some y) = (λ e. absurd (false≢true e), λ e. ap is_none (sym e))
   exact_options (Some x) None = (λ e. absurd (false≢true e), λ e. ap is_none e)
-  exact_options (Some x) (Some y) = (λ e. ap Some ((test.exact x y).0 e), λ e. (test.exact x y).1 (ap (λ o. unwrap_or o x) e))
+  exact_options (Some x) (Some y) =
+      (λ e. ap Some ((test.exact x y).0 e), λ e. (test.exact x y).1 (ap (λ o. unwrap_or o x) e))
 
   pub of_options : Equality (Option A)
   of_options = record { equal = equal_options; exact = exact_options }
@@ -205,9 +207,13 @@ null_same nullness.May = refl
 null_same nullness.NotNull = refl
 null_same nullness.Null = refl
 
+places_known : Equality (Place × Nullness)
+places_known =
+    both (told_by place_number place_of place_same naturals) (told_by null_number null_of null_same naturals)
+
 pub references : Equality Reference
-references = told_by (λ r. ((r.place, r.nullness), r.length)) (λ p. record { place = p.0.0; nullness = p.0.1; length = p.1 }) (λ r. refl)
-    (both (both (told_by place_number place_of place_same naturals) (told_by null_number null_of null_same naturals)) exprs)
+references = told_by (λ r. ((r.place, r.nullness), r.length))
+    (λ p. record { place = p.0.0; nullness = p.0.1; length = p.1 }) (λ r. refl) (both places_known exprs)
 
 pub ranges : Equality Interval
 ranges = told_by (λ r. ((r.lo, r.hi), r.hole)) (λ p. record { lo = p.0.0; hi = p.0.1; hole = p.1 }) (λ r. refl)
@@ -218,17 +224,21 @@ bound_rows = told_by (λ r. ((r.s, r.t), r.k)) (λ p. record { s = p.0.0; t = p.
     (both (both naturals naturals) integers)
 
 pub facts : Equality Facts
-facts = told_by (λ f. ((f.ranges, f.definitions), f.bounds)) (λ p. record { ranges = p.0.0; definitions = p.0.1; bounds = p.1 }) (λ f. refl)
+facts = told_by (λ f. ((f.ranges, f.definitions), f.bounds))
+    (λ p. record { ranges = p.0.0; definitions = p.0.1; bounds = p.1 }) (λ f. refl)
     (both (both (of_lists ranges) (of_lists (both naturals definitions))) (of_lists bound_rows))
 
 pub segments : Equality (Lists Interval)
-segments = told_by (λ s. ((s.bounds, s.contents), s.marks)) (λ p. record { bounds = p.0.0; contents = p.0.1; marks = p.1 }) (λ s. refl)
+segments = told_by (λ s. ((s.bounds, s.contents), s.marks))
+    (λ p. record { bounds = p.0.0; contents = p.0.1; marks = p.1 }) (λ s. refl)
     (both (both (of_lists (of_lists exprs)) (of_lists ranges)) (of_lists truths))
 
 pub known_states : Equality StateFacts
-known_states = told_by (λ s. (((s.variables, s.facts), (s.references, s.apart)), s.contents))
-    (λ p. record { variables = p.0.0.0; facts = p.0.0.1; references = p.0.1.0; apart = p.0.1.1; contents = p.1 }) (λ s. refl)
-    (both (both (both (of_lists variables) facts) (both (of_lists references) (of_lists (both naturals naturals)))) (of_lists segments))
+known_states = told_by (λ s. ((s.variables, s.facts), ((s.references, s.apart), s.contents)))
+    (λ p. record { variables = p.0.0; facts = p.0.1; references = p.1.0.0; apart = p.1.0.1; contents = p.1.1 })
+    (λ s. refl)
+    (both (both (of_lists variables) facts)
+    (both (both (of_lists references) (of_lists (both naturals naturals))) (of_lists segments)))
 
 -- ---- states
 
