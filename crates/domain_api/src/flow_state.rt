@@ -1,6 +1,6 @@
 //! States that flow along the edges of code.
 
-ghost use Rattle.std.specs.Prelude.{◌≡◌, ◌<◌, ◌↔◌, ℕ, IfOk, IsTrue};
+ghost use Rattle.std.specs.Prelude.{◌≡◌, ◌<◌, ◌↔◌, ℕ, Bool, true, IfOk, IsTrue};
 ghost use Rattle.domain_api.specs.Meter.{after_tick};
 
 use crate::NoMemory;
@@ -51,6 +51,9 @@ pub trait FlowState: Lattice {
     /// The state of what is never reached.
     ghost nothing: { Self };
 
+    /// Whether two states are equal, as `same` answers.
+    ghost equal: { Self → Self → Bool };
+
     /// The state after an edge. It ticks the meter once, whatever it answers.
     fn along_edge(
         &self,
@@ -87,6 +90,8 @@ pub trait FlowState: Lattice {
         requires lawful { lawful code.now }
         requires block { block < block_count code.now }
         ensures { IfOk result (λ state. state ≡ unknown code.now block) };
+
+    ghost equal_exact: { (a b : Self) → (equal a b ≡ true) ↔ (a ≡ b) };
 
     ghost first_block: { (code : Self.Code) → lawful code → 0 < block_count code };
 

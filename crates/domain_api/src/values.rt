@@ -1,6 +1,6 @@
 //! Sets of numbers.
 
-ghost use Rattle.std.specs.Prelude.{◌≡◌, ◌≢◌, ℤ, pos, ◌+ℤ◌, ◌-ℤ◌, ◌*ℤ◌, Bool, true, FitsSigned, int_div, int_rem};
+ghost use Rattle.std.specs.Prelude.{◌≡◌, ◌≢◌, ◌↔◌, ℤ, pos, ◌+ℤ◌, ◌-ℤ◌, ◌*ℤ◌, Bool, true, FitsSigned, IsTrue, int_div, int_rem};
 ghost use Rattle.std.specs.Int.{w32, w64, int_bit_and};
 
 /// Sets of numbers of 64 bits, each with what it is known to contain. Nothing takes memory.
@@ -20,7 +20,7 @@ pub trait Values: Copy {
     /// Another one, which is made of a set and of its next one.
     ghost widened: { Self → Self → Self };
 
-    /// Whether the second set is shown to have what the first has.
+    /// Whether the second set has each number that the first has.
     ghost within: { Self → Self → Bool };
 
     /// The sums of a number of each set, and so on: those that fit 64 bits.
@@ -52,9 +52,10 @@ pub trait Values: Copy {
     fn widened(&self, other: &Self) -> Self
         ensures { result ≡ widened self.now other.now };
 
-    /// Returns whether the other set is shown to have what this one has.
+    /// Returns whether the other set has each number that this one has.
     fn within(&self, other: &Self) -> bool
-        ensures { result ≡ within self.now other.now };
+        ensures value { result ≡ within self.now other.now }
+        ensures exact { IsTrue result ↔ ((n : ℤ) → contains self.now n → contains other.now n) };
 
     /// The sums of a number of each set.
     fn add(&self, other: &Self) -> Self

@@ -1,9 +1,10 @@
 //! The least that flows: blocks in a row, each reached from the one before it, and whether one is reached.
 
 ghost use Rattle.std.specs.Prelude.{◌≡◌, ◌<◌, ◌+◌, ◌↔◌, Bool, true, false, ◌||◌, not, ⊤};
-ghost use Rattle.std.proofs.Common.{refl, rules};
+ghost use Rattle.std.proofs.Common.{ap, refl, rules};
+ghost use Rattle.std.specs.Bool.{beq};
 ghost use Rattle.std.proofs.lemmas.Bool.{false≢true};
-ghost use Rattle.domain_rows.specs.Laws.Reached.{either_first, either_second, less_holds};
+ghost use Rattle.domain_rows.specs.Laws.Reached.{beq_exact, either_first, either_second, less_holds};
 
 use domain_api::{FlowState, Lattice, Meter, NoMemory, Ticks};
 use std::alloc::Global;
@@ -90,6 +91,8 @@ impl FlowState for Reached {
 
     ghost nothing = { record { is = false } };
 
+    ghost equal = { λ a b. beq a.is b.is };
+
     fn along_edge(
         &self,
         _alloc: Global,
@@ -120,6 +123,11 @@ impl FlowState for Reached {
     fn unknown(_alloc: Global, _code: &Chain, _block: u32) -> Result<Reached, NoMemory> {
         Ok(Reached { is: true })
     }
+
+    ghost equal_exact = { λ a b. (
+      λ equal. ap (λ is. record { is = is }) ((beq_exact a.is b.is).0 equal),
+      λ same. (beq_exact a.is b.is).1 (ap (λ state. state.is) same),
+    ) };
 
     ghost first_block = { λ code lawful. Prim.search rules };
 

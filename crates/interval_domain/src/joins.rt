@@ -1,7 +1,7 @@
-//! Hulls, widening and containment of ranges.
+//! Hulls and widening of ranges.
 
 ghost use Rattle.std.specs.Prelude.{◌≡◌, ◌≤ℤ◌};
-ghost use Rattle.interval_domain.specs.Joins.{kept_hole, hull, floor_of, ceiling_of, lower_end, upper_end, widened, excludes_hole, within};
+ghost use Rattle.interval_domain.specs.Joins.{kept_hole, hull, floor_of, ceiling_of, lower_end, upper_end, widened};
 
 use crate::range::{GREATEST_32, LEAST_32, Range};
 
@@ -83,23 +83,4 @@ pub fn widened(a: Range, b: Range) -> Range
     let lo = lower_end(a.lo(), b.lo());
     let hi = upper_end(a.hi(), b.hi());
     Range::with_hole(lo, hi, kept_hole(a.hole(), b))
-}
-
-/// Returns whether the range excludes the hole, if there is one.
-#[tactic(auto, unfolding(crate::specs::Joins::excludes_hole))]
-fn excludes_hole(range: Range, hole: Option<i64>) -> bool
-    ensures { result ≡ excludes_hole range hole }
-{
-    match hole {
-        Some(hole) => range.excludes(hole),
-        None => true,
-    }
-}
-
-/// Returns whether the second range has what the first has.
-#[tactic(auto, unfolding(crate::specs::Joins::within))]
-pub fn within(a: Range, b: Range) -> bool
-    ensures { result ≡ within a b }
-{
-    b.lo() <= a.lo() && a.hi() <= b.hi() && excludes_hole(a, b.hole())
 }

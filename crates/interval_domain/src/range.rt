@@ -1,7 +1,8 @@
 //! Ranges of numbers of 64 bits.
 
-ghost use Rattle.std.specs.Prelude.{◌≡◌, pos, ◌-ℤ◌, ◌+ℤ◌, ◌≤ℤ◌, ◌<ℤ◌, ◌↔◌, IsSome, IfSome};
-ghost use Rattle.interval_domain.specs.Interval.{between, excludes, holed, is_hole, lost, without, raised, lowered};
+ghost use Rattle.std.specs.Prelude.{◌≡◌, ℤ, pos, ◌-ℤ◌, ◌+ℤ◌, ◌≤ℤ◌, ◌<ℤ◌, ◌↔◌, IsSome, IfSome, IsTrue};
+ghost use Rattle.interval_domain.specs.Interval.{Contains, between, excludes, holed, is_hole, lost, without, raised, lowered};
+ghost use Rattle.interval_domain.specs.Joins.{excludes_hole, within};
 
 use std::marker::Model;
 
@@ -76,6 +77,28 @@ impl Range {
         ensures { result ≡ excludes self.now n }
     {
         n < self.lo || self.hi < n || is_hole(self.hole, n)
+    }
+
+    /// Returns whether the range excludes the hole, if there is one.
+    #[tactic(auto, unfolding(crate::specs::Joins::excludes_hole))]
+    fn excludes_hole(&self, hole: Option<i64>) -> bool
+        ensures { result ≡ excludes_hole self.now hole }
+    {
+        match hole {
+            Some(hole) => self.excludes(hole),
+            None => true,
+        }
+    }
+
+    /// Returns whether the other range has each number that this one has.
+    #[tactic(auto, unfolding(crate::specs::Joins::within))]
+    pub(crate) fn within(&self, other: &Range) -> bool
+        ensures value { result ≡ within self.now other.now }
+        ensures exact { IsTrue result ↔ ((n : ℤ) → Contains self.now n → Contains other.now n) }
+    {
+        let Range { lo, hi, .. } = *self;
+        let excluded = self.excludes_hole(other.hole);
+        other.lo <= lo && hi <= other.hi && excluded
     }
 
     /// The lowest number.

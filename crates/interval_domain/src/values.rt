@@ -57,7 +57,7 @@ impl Values for Range {
     }
 
     fn within(&self, other: &Range) -> bool {
-        joins::within(*self, *other)
+        Range::within(self, other)
     }
 
     fn add(&self, other: &Range) -> Range {

@@ -21,3 +21,4 @@ pub mod UnknownLaws
 pub mod BegunLaws
 pub mod EntryLaws
 pub mod FlowLaws
+pub mod StateEquality

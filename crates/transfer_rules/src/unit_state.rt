@@ -1,6 +1,7 @@
 //! States of units that flow along the edges of their graphs.
 
 ghost use Rattle.std.specs.Prelude.{◌<◌, length, None};
+ghost use Rattle.std.proofs.Common.{ap};
 ghost use Rattle.merged_states.specs.Alike.{AreLikeStates};
 ghost use Rattle.merged_states.specs.Inclusion.{is_included};
 ghost use Rattle.merged_states.specs.Merging as states;
@@ -10,6 +11,7 @@ ghost use Rattle.transfer_rules.specs.Entry.{entry};
 ghost use Rattle.transfer_rules.specs.Flow.{Fits, along_edge};
 ghost use Rattle.transfer_rules.specs.Laws.FlowLaws as flow;
 ghost use Rattle.transfer_rules.specs.Laws.FormsMerged as merged;
+ghost use Rattle.transfer_rules.specs.Laws.StateEquality as equality;
 ghost use Rattle.transfer_rules.specs.Laws.UnknownLaws as unknowns;
 ghost use Rattle.transfer_rules.specs.Unknown.{unknown};
 ghost use Rattle.unit_flow.specs.Flow.{Begins, GoesAlong, IsLawful, edge_at, kinds_at};
@@ -98,6 +100,8 @@ impl FlowState for UnitState {
 
     ghost nothing = { record { state = None } };
 
+    ghost equal = { λ a b. equality.states.equal a.state b.state };
+
     fn along_edge(
         &self,
         alloc: Global,
@@ -138,6 +142,11 @@ impl FlowState for UnitState {
             state: unknown(alloc, code, block)?,
         })
     }
+
+    ghost equal_exact = { λ a b. (
+      λ equal. ap (λ state. record { state = state }) ((equality.states.exact a.state b.state).0 equal),
+      λ same. (equality.states.exact a.state b.state).1 (ap (λ a. a.state) same),
+    ) };
 
     ghost first_block = { λ code lawful. flow.has_block code lawful };
 

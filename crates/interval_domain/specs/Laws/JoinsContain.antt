@@ -1,12 +1,12 @@
 -- What hulls and widening have, and what containment of ranges gives.
-use Rattle.std.proofs.Common.{◌≡◌, ◌≢◌, ℤ, ◌≤ℤ◌, true, ◌&&◌, int_lt, int_le, Option, Some, None, w32, w64, FitsSigned, arith}
+use Rattle.std.proofs.Common.{◌≡◌, ◌≢◌, ◌↔◌, ℤ, ◌≤ℤ◌, Bool, true, false, ◌&&◌, int_lt, int_le, Option, Some, None, refl, sym, ◌∙◌, w32, w64, FitsSigned, arith}
 use Rattle.std.proofs.lemmas.Int.{ints, clamps}
 use Rattle.std.proofs.lemmas.Bool.{cond_both, and_parts}
 use Rattle.std.specs.Option.{option_or}
 use Rattle.std.specs.Int.{int_min, int_max}
-use Rattle.interval_domain.specs.Interval.{Interval, Contains, one, holed, excludes}
+use Rattle.interval_domain.specs.Interval.{Interval, Contains, IsRange, one, holed, excludes}
 use Rattle.interval_domain.specs.Joins.{full, kept_hole, hull, floor_of, ceiling_of, lower_end, upper_end, widened, excludes_hole, within}
-use Rattle.interval_domain.specs.Laws.Holes.{has_excludes, inner_apart}
+use Rattle.interval_domain.specs.Laws.Holes.{has_excludes, inner_above, inner_apart, inner_below, not_excluded}
 
 -- the range of one number, and of all int32
 pub one_contains : (n : ℤ) → FitsSigned w64 n → Contains (one n) n
@@ -100,3 +100,39 @@ within_contains a b n inside has =
       below = grind (arith, ints, ends.1, has.below);
       no_hole = excluded_apart a b.hole n parts.1 has;
     }
+
+-- a range has its ends
+pub lowest_contained : (r : Interval) → IsRange r.lo r.hi r.hole → FitsSigned w64 r.lo → Contains r r.lo
+lowest_contained r form fits =
+    record { fits = fits; above = omega (arith, ints); below = form.ordered; no_hole = inner_above r.lo r.hi r.hole form.inner }
+
+pub highest_contained : (r : Interval) → IsRange r.lo r.hi r.hole → FitsSigned w64 r.hi → Contains r r.hi
+highest_contained r form fits =
+    record { fits = fits; above = form.ordered; below = omega (arith, ints); no_hole = inner_below r.lo r.hi r.hole form.inner }
+
+-- where no number of a range is the hole, the range excludes the hole
+hole_excluded : (a : Interval) (hole : Option ℤ) → FitsSigned w64 a.lo → FitsSigned w64 a.hi
+    → ((n : ℤ) → Contains a n → hole ≢ Some n) → excludes_hole a hole ≡ true
+unfolding excludes_hole
+hole_excluded a None low high apart = refl
+hole_excluded a (Some k) low high apart = decided (excludes a k) refl
+  where
+    decided : (b : Bool) → excludes a k ≡ b → b ≡ true
+    decided true is = refl
+    decided false is = elim (apart k (not_excluded a k low high is) refl) [ ]
+
+-- a range whose numbers are all numbers of another one is within that one
+pub within_where_all : (a b : Interval) → IsRange a.lo a.hi a.hole → FitsSigned w64 a.lo → FitsSigned w64 a.hi
+    → ((n : ℤ) → Contains a n → Contains b n) → within a b ≡ true
+unfolding within
+within_where_all a b form low high all =
+    let lowest = (all a.lo (lowest_contained a form low)).above in
+    let highest = (all a.hi (highest_contained a form high)).below in
+    let excluded = hole_excluded a b.hole low high (λ n has. (all n has).no_hole) in
+    grind (arith, ints, lowest, highest, excluded)
+
+-- so containment is told exactly
+pub tells_within : (a b : Interval) (told : Bool) → IsRange a.lo a.hi a.hole → FitsSigned w64 a.lo → FitsSigned w64 a.hi
+    → told ≡ within a b → (told ≡ true) ↔ ((n : ℤ) → Contains a n → Contains b n)
+tells_within a b told form low high is =
+    (λ inside n has. within_contains a b n (sym is ∙ inside) has, λ all. is ∙ within_where_all a b form low high all)
