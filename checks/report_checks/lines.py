@@ -251,20 +251,17 @@ def look_at_none(folder):
 
 
 def look_at_numbers():
-    """The numbers that docs/CI.md lists are those that are printed."""
-    with open(os.path.join(TOP, "docs/CI.md"), encoding="utf-8") as file:
-        rows = re.findall(r"^\| CC(\d{4}) to CC(\d{4}) \| (.*) \|$", file.read(), re.MULTILINE)
-    listed = {words: f"CC{int(first) + at:04}" for first, last, row in rows for at, words in enumerate(row.split(", "))}
-    for first, last, row in rows:
-        want(int(last) - int(first) + 1 == len(row.split(", ")), f"docs/CI.md: CC{first} to CC{last} are other numbers")
-    clauses = {"requires": "requires 1", "ensures": "ensures 1", "inferred ensures": "ensures 2 (inferred)"}
-    texts = [clauses.get(words, words) for words in listed]
+    """The numbers that docs/REPORTS.md lists are those that are printed."""
+    with open(os.path.join(TOP, "docs/REPORTS.md"), encoding="utf-8") as file:
+        rows = re.findall(r"^ {4}(CC\d{4}) (.+?) {2,}\S", file.read(), re.MULTILINE)
+    texts = [re.sub(r" of NAME$| HH$", "", words).replace(" K", " 1") for _, words in rows]
     given = "assembly a.dll\n" + "".join(
         f"method 06000001 A::b(): not analysed: {words}\n" if words[0] == "N" else
         f"method 06000001 A::b(): unproved\n  IL_0000 {words}: unproved\n" for words in texts)
     run = json.loads(report("--sarif", "-", "--read", "-", given=whole(given)))["runs"][0]
-    want([it["ruleId"] for it in run["results"]] == list(listed.values()), "docs/CI.md lists other numbers")
-    want({rule["id"] for rule in run["tool"]["driver"]["rules"]} == set(listed.values()), "docs/CI.md lacks numbers")
+    numbers = [number for number, _ in rows]
+    want([it["ruleId"] for it in run["results"]] == numbers, "docs/REPORTS.md lists other numbers")
+    want({rule["id"] for rule in run["tool"]["driver"]["rules"]} == set(numbers), "docs/REPORTS.md lacks numbers")
 
 
 def look_at_lines(folder):

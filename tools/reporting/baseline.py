@@ -1,4 +1,10 @@
-"""The ratchet: a baseline of what was proved, and what is worse or better since. docs/CI.md defines both."""
+"""The ratchet: a baseline of what was proved, and what is worse or better since. docs/CI.md defines both.
+
+A baseline knows names and counts alone, so that other code may change. It does not tell with which words the reports
+were made. Where the number of obligations of one text changed, it is not known which are the old ones: their number
+counts. A judged method that is gone is worse, or a new name would be a way out; methods that are not analysed stand in
+it so that an overload is not taken for a new one.
+"""
 import collections
 import dataclasses
 import os
