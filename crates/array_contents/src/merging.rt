@@ -1,4 +1,7 @@
 //! Contents of two states as one.
+//!
+//! What arrays hold is forgotten where a join has more than 2^32 - 1 symbols: a new length would have no number. The
+//! code answers want of memory there.
 
 ghost use Rattle.std.specs.Prelude.{◌≡◌, get_or, map, IfOk};
 ghost use Rattle.std.specs.List.{AllByRecursion};

@@ -1,4 +1,8 @@
 //! The limit on the number of segments.
+//!
+//! At most 12 segments, and four expressions in a bound (common_bounds.rt): where more are left, the lowest stay, but
+//! 0 and the length take the place of the last. What lies between two common bounds on one side alone is marked as
+//! perhaps empty.
 
 ghost use Rattle.std.specs.Prelude.{◌≡◌, ◌≤◌, length};
 ghost use Rattle.array_segments.specs.Counted.{IsCounted};

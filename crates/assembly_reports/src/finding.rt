@@ -1,4 +1,7 @@
 //! What is found of the methods of an assembly.
+//!
+//! A finding keeps the verdicts on a unit and the text of an invariant, and not the invariant: the states of all
+//! methods would take more room than the file. A unit is given up, but for its callees, as soon as it is judged.
 
 ghost use Rattle.std.specs.Prelude.{◌≡◌, ◌++◌, IfOk, OnOk};
 ghost use Rattle.assembly_answers.specs.ReasonText.{reason_text};

@@ -1,4 +1,8 @@
 //! What is inferred of the methods of an assembly, and its report with that.
+//!
+//! What is inferred comes from the states by which units are judged, those of the cache or else a finder's, and the
+//! clauses `inferred` and `checked_inferred` of `run_words` name that pick. With some pick they would not say that the
+//! Ensures of which they speak are those that the report prints.
 
 ghost use Rattle.std.specs.Prelude.{◌≡◌, ◌-◌, ◌<◌, ◌^◌, [], All, IfOk, None, OnOk, Some, get_or, if◌then◌else◌, length, map, slice_get, true};
 ghost use Rattle.answer_lines.specs.LineCounts.{AreLines};

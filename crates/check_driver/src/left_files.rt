@@ -1,4 +1,7 @@
 //! The files that a check leaves: a proof file, and a cache.
+//!
+//! A cache that is left has the units of its call alone, also what was held for them, and a call that refuses a file
+//! leaves none: what stands in the file is then what one whole call used.
 
 #![tactic(auto, using(cc_base::proofs::CountLemmas::counts, crate::proofs::LeftFiles::left))]
 

@@ -1,6 +1,9 @@
 //! What the nodes of trees make of the values below them, which lie on the stack. Each answers whether its obligations
 //! are entailed, each in the state that assumes those before it. The state then assumes them, and the node's value lies
 //! on the stack in place of its operands.
+//!
+//! A tree pushes its value on the state's stack: all laws of variables speak of it, and no expression is kept beside a
+//! state that changes.
 
 ghost use Rattle.std.specs.Prelude.{◌≡◌, IfOk, IsSome, OnOk, Some, is_some};
 ghost use Rattle.std.specs.Option.{ForSome};

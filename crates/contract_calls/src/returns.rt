@@ -1,4 +1,7 @@
 //! What a return owes and gives.
+//!
+//! The result is put first, and then the unit's Ensures are assumed (`given_back`): an Ensures reads the result in its
+//! place. No edge leaves a return, so the rule itself alone tells it (`post` of transfer_rules).
 
 ghost use Rattle.std.specs.Prelude.{◌≡◌, IfOk, true};
 ghost use Rattle.cil_model.specs.WellFormed.{IsWellFormed};

@@ -1,4 +1,9 @@
 //! The clauses that a method's returns show.
+//!
+//! An Ensures is inferred where it follows at each return that is reached, of the state there with the result in its
+//! place; the unit's own Ensures are not assumed. A bound on the result is the least or the greatest number of all
+//! returns together. Where no return is reached, and under states that are no invariant, nothing is inferred. All
+//! clauses of a method count for the room that is left, its Requires too.
 
 ghost use Rattle.std.specs.Prelude.{◌≡◌, ◌-◌, ◌≤◌, ◌++◌, length, map, take, filter_map, IfOk, OnOk, option_to_list};
 ghost use Rattle.cil_model.specs.WellFormed.{IsWellFormed};

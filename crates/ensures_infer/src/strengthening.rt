@@ -1,4 +1,7 @@
 //! Units to whose clauses others are added.
+//!
+//! What is inferred is trusted nowhere: a unit to which it was added is judged as any unit, so no law of this crate
+//! speaks of runs. Its code and its kinds are the old ones (`strengthen`: `kinds`), and typing is not done again.
 
 ghost use Rattle.std.specs.Prelude.{◌≡◌, ◌++◌, length, IfOk};
 ghost use Rattle.cil_model.specs.Passes.{KindsOf, Stacks};

@@ -1,4 +1,7 @@
 //! Ranges of numbers of 64 bits.
+//!
+//! A range has one hole at most, and an end beyond 64 bits is the nearest number: so each operator keeps every result
+//! that fits. That int32 wraps is the caller's to say. A quotient by 0 alone is the range of 0.
 
 ghost use Rattle.std.specs.Prelude.{◌≡◌, ℤ, pos, ◌-ℤ◌, ◌+ℤ◌, ◌≤ℤ◌, ◌<ℤ◌, ◌↔◌, IsSome, IfSome, IsTrue};
 ghost use Rattle.interval_domain.specs.Interval.{Contains, between, excludes, holed, is_hole, lost, without, raised, lowered};

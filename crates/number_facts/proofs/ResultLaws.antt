@@ -17,11 +17,12 @@ use Rattle.cil_model.proofs.ArithmeticFits.{operated_fits}
 use Rattle.interval_domain.specs.Arithmetic.{near, least, greatest}
 use Rattle.interval_domain.specs.Laws.Ends.{near_below, near_above}
 use Rattle.symbolic_values.specs.Worth.{worth}
-use Rattle.number_spans.specs.Constants.{is_constant}
+use Rattle.number_spans.specs.Constants.{exact_of, is_constant}
 use Rattle.number_spans.specs.Product.{corners, is_the_constant}
 use Rattle.number_spans.specs.Spans.{Has, full, is_int32}
 use Rattle.number_spans.proofs.BitLaws.{common_bits_have, bits_of_either_have, bits_of_one_have}
 use Rattle.number_spans.proofs.OperatorLaws.{ok_same, divided_gives, divided_unsigned_gives, shifted_gives, exact_gives}
+use Rattle.number_spans.proofs.ConstantLaws.{exact_gives_it}
 use Rattle.number_spans.proofs.ProductLaws.{corners_have}
 use Rattle.number_spans.proofs.ShiftLaws.{shifted_right_has}
 use Rattle.number_spans.proofs.Wrapping.{full_has}
@@ -62,11 +63,7 @@ both_constants : (facts : Facts) (number : ℕ → ℤ) (a b : Expr) → AllowsN
     → FitsSigned w32 (worth number b) → is_the_constant a (pos 1) ≡ true → (is_constant a && is_constant b) ≡ true
 both_constants facts number a b allowed zero fits one =
     let parts = and_parts (a.sym == 0) _ one in
-    let k = (Decides-int_eq a.k (pos 1)).0 parts.1 in
-    let is = constant_worth facts number b allowed zero in
-    let first : is_int32 a.k ≡ true = grind (arith, ints, k) in
-    let second : is_int32 b.k ≡ true = grind (arith, ints, is, fits) in
-    rw (parts.0, first, zero, second) refl
+    rw (parts.0, zero) refl
 
 not_both : (x : Bool) → x ≡ false → x ≡ true → ⊥
 not_both x is other = grind (arith, is, other)
@@ -191,11 +188,12 @@ outcome_covers op facts number is_null a b n given fits is =
     let allowed = given.knows.holds.allowed in
     cond_both (is_constant a && is_constant b) _ _ (λ o. Covers number (rule.known_or o (rule.by_facts op facts a b)) n)
     (λ e.
-    let parts = and_parts (is_constant a) _ e in
-    let m = constant_worth facts number a allowed (and_parts (a.sym == 0) _ parts.0).0 in
-    let k = constant_worth facts number b allowed (and_parts (b.sym == 0) _ parts.1).0 in
-    constants_cover (result_ok (operated op a.k b.k)) (operated op (worth number a) (worth number b))
-    (rule.by_facts op facts a b) facts number n allowed is (rw (m, k) refl))
+    let parts = and_parts (is_constant a) (is_constant b) e in
+    let m = constant_worth facts number a allowed parts.0 in
+    let k = constant_worth facts number b allowed parts.1 in
+    let gives = exact_gives_it op (worth number a) (worth number b) n given.one given.other fits is in
+    constants_cover (result_ok (exact_of op a.k b.k)) (exact_of op (worth number a) (worth number b))
+    (rule.by_facts op facts a b) facts number n allowed gives (rw (m, k) refl))
     (λ e. facts_cover op facts number is_null a b n given e fits is)
 
 result_fits : (r : Result ℤ FaultKind) (n : ℤ) → r ≡ Ok n → IfOk r (FitsSigned w32) → FitsSigned w32 n

@@ -1,5 +1,5 @@
 -- What is known of comparisons is so, and what they push keeps it.
-use Rattle.std.proofs.Common.{◌≡◌, ◌≢◌, ℕ, ◌+◌, ◌≤◌, ℤ, pos, Bool, true, ◌&&◌, ◌||◌, int_lt, int_eq, Option, Some, None, length, refl, sym, ap, ◌∙◌, ⊎_elim, FitsSigned, w32, arith}
+use Rattle.std.proofs.Common.{◌≡◌, ◌≢◌, ℕ, ◌+◌, ◌≤◌, ℤ, pos, Bool, true, false, ◌&&◌, ◌||◌, int_lt, int_eq, Option, Some, None, length, refl, sym, ap, ◌∙◌, ⊎_elim, FitsSigned, w32, arith}
 use Rattle.std.specs.Prelude.{◌==◌, nat_lt, Result, Ok, Err, IfOk, OnOk}
 use Rattle.std.specs.List.{AllByRecursion}
 use Rattle.std.specs.Result.{result_ok}
@@ -17,8 +17,9 @@ use Rattle.interval_domain.specs.Interval.{between}
 use Rattle.symbolic_values.specs.Meaning as said
 use Rattle.symbolic_values.specs.Worth.{worth}
 use Rattle.symbolic_values.specs.declared.def.Def.{Def}
-use Rattle.number_spans.specs.Constants.{is_constant}
+use Rattle.number_spans.specs.Constants.{exact_of, is_constant}
 use Rattle.number_spans.specs.Spans.{is_not_negative, one_excluded}
+use Rattle.number_spans.proofs.ConstantLaws.{exact_gives_it}
 use Rattle.number_spans.proofs.ComparingLaws.{lt_true, lt_false, one_apart, plain_less, truth_allowed}
 use Rattle.number_facts.specs.Comparisons.{less_known, apart, equal_known, less_unsigned_known, known, truth_of, defined_by, pushed, compared_or, compared}
 use Rattle.number_facts.specs.Ends.{range_of}
@@ -230,6 +231,10 @@ operated_is operators.AddOvf cmp m n is = absurd cc
 operated_is operators.MulOvf cmp m n is = absurd cc
 operated_is operators.SubOvf cmp m n is = absurd cc
 
+truth_fits : (so : Bool) → FitsSigned w32 (truth so)
+truth_fits true = omega (arith, ints)
+truth_fits false = omega (arith, ints)
+
 constants_keep : (r : Result ℤ FaultKind) (n : ℤ) (facts : Facts) (made : Made) (number : ℕ → ℤ) (is_null : ℕ → Bool) → r ≡ Ok n → Holds facts number is_null
     → HoldsWith facts (compared_or (result_ok r) facts made).facts number is_null (compared_or (result_ok r) facts made).expr n
 constants_keep r n facts made number is_null is holds = rw is (record {
@@ -249,9 +254,12 @@ compared_keeps op facts a b first second = λ number is_null cmp named is holds 
     cond_both (is_constant a && is_constant b) _ _ (λ o. HoldsWith facts (compared_or o facts made).facts number is_null (compared_or o facts made).expr so)
     (λ e.
     let parts = and_parts (is_constant a) (is_constant b) e in
-    let m = constant_worth facts number a holds.allowed (and_parts (a.sym == 0) _ parts.0).0 in
-    let n = constant_worth facts number b holds.allowed (and_parts (b.sym == 0) _ parts.1).0 in
-    rw (m, n) (constants_keep (operated op a.k b.k) (truth (compares cmp a.k b.k)) facts made number is_null (operated_is op cmp a.k b.k is) holds))
+    let m = constant_worth facts number a holds.allowed parts.0 in
+    let n = constant_worth facts number b holds.allowed parts.1 in
+    let first : FitsSigned w32 a.k = rw m at one in
+    let second : FitsSigned w32 b.k = rw n at two in
+    let gives = exact_gives_it op a.k b.k _ first second (truth_fits (compares cmp a.k b.k)) (operated_is op cmp a.k b.k is) in
+    rw (m, n) (constants_keep (exact_of op a.k b.k) (truth (compares cmp a.k b.k)) facts made number is_null gives holds))
     (λ e. pushed_keeps op cmp (known op facts a b) facts number is_null a b is holds named given (known_tells op cmp facts number a b is given))
 
 pub truth_where_ok : {E : Type 0} (op : BinOp) (before : Facts) (a b : Expr) (result : Result Expr E) (after : Facts) → IsNamed before a → IsNamed before b

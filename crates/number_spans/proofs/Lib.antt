@@ -14,3 +14,4 @@ pub mod ShiftLaws
 pub mod BitLaws
 pub mod ComparingLaws
 pub mod OperatorLaws
+pub mod ConstantLaws

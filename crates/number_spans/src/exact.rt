@@ -1,7 +1,7 @@
 //! Exact sums, differences and products.
 
 ghost use Rattle.std.specs.Prelude.{◌≡◌, pos, ◌^◌, ◌+ℤ◌, ◌-ℤ◌, ◌*ℤ◌, ◌≤ℤ◌, unsigned_abs, int_le, FitsSigned};
-ghost use Rattle.std.specs.Int.{w32, w64, int_max};
+ghost use Rattle.std.specs.Int.{w64, int_max};
 ghost use Rattle.cil_model.specs.Arithmetic as arithmetic;
 ghost use Rattle.number_spans.specs.Shifts.{IsAmount};
 ghost use Rattle.number_spans.specs.Sizes.{IsEnd, IsWide, IsBounded};
@@ -139,14 +139,6 @@ pub fn greater(a: i128, b: i128) -> i128
     ensures bound { IsEnd result }
 {
     a.max(b)
-}
-
-/// A constant that is an int32.
-pub fn int32(k: i64) -> i32
-    requires { FitsSigned w32 k }
-    ensures { result ≡ k }
-{
-    k as i32
 }
 
 /// A power of 2.

@@ -1,4 +1,7 @@
 //! Obligations of a unit, in a state: whether it entails one, and what it becomes where one is assumed.
+//!
+//! Faults are asked for by unit, operation and kind: an operation tells neither a callee's clauses nor the unit's own.
+//! Who has the instruction asks `rules_out` and `avoid`; `entails` and `assume` look it up by offset.
 
 ghost use Rattle.std.specs.Prelude.{◌≡◌, IfOk, Ok, Some, false, option_map, true};
 ghost use Rattle.std.specs.Option.{ForSome, option_copied};

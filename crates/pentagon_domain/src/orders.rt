@@ -1,4 +1,7 @@
 //! Rows in both orders.
+//!
+//! Rows are kept in two orders, so that what is known of a symbol costs its own bounds. A join writes one order
+//! (`BoundsBuilder`) and makes the other by a sort.
 
 ghost use Rattle.std.specs.Prelude.{◌≡◌, [], IfOk, OnOk, OnErr};
 ghost use Rattle.std.specs.Vec.{vec_capacity};

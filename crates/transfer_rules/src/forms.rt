@@ -1,4 +1,7 @@
 //! Whether the variables of states have the forms of kinds.
+//!
+//! What is not the form of an operand ends in a state that is never reached, and an obligation there is not entailed:
+//! so definitions are total, and their code owes nothing but the state's form.
 
 ghost use Rattle.std.specs.Prelude.{◌≡◌, ◌*◌, ◌+◌, ◌<◌, ◌≤◌, ◌↔◌, length, map, slice_get, IsSome, IsTrue};
 ghost use Rattle.std.specs.Option.{ForSome};

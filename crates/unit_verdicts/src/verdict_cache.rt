@@ -1,4 +1,8 @@
 //! The verdicts on the units that were judged in a call.
+//!
+//! A cache is judged like anything that is found: what it holds for a unit is looked up by the unit's whole bytes, and
+//! then tested and judged as what a finder answers, so its file is no premise of the headline. What a finder would
+//! answer is not asked for besides: a cache of other invariants gives other verdicts, never wrong ones.
 
 ghost use Rattle.std.specs.Prelude.{◌≡◌, ◌++◌, Bool, true, false, [], ◌∷◌, is_some, IfOk, IfSome, OnOk};
 ghost use Rattle.method_unit.specs.UnitFile.{unit_of};
