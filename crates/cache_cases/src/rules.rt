@@ -55,7 +55,7 @@ impl CacheRules {
         if invariant.len() > 65_536 || check_invariant(self.alloc, &invariant).is_err() {
             return Err(Failure::Unmet("the bytes are an invariant"));
         }
-        self.cache.put(key, invariant)?;
+        self.cache.put(&key, &invariant)?;
         Ok(Line::Step)
     }
 

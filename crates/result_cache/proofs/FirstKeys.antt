@@ -19,7 +19,7 @@ use Rattle.unit_form.specs.declared.form.UnitForm.{UnitForm}
 use Rattle.unit_form.specs.declared.form.UnitForm.TheVariants.{First, Second, Third}
 use Rattle.result_cache.specs.Entries.{AreEntries, AreEntriesBehind, Entry, is_among, keys_of, with_entry}
 use Rattle.result_cache.specs.FirstForm.{AreFirst, has_first_number, IsFirstOf, second_entry, second_key}
-use Rattle.result_cache.proofs.HeldLemmas.{put_last, take_next}
+use Rattle.result_cache.proofs.EntryLemmas.{put_last, take_next}
 
 -- ---- one key
 

@@ -7,7 +7,7 @@ use Rattle.std.proofs.lemmas.List.Concat.{flat_map-cons, flat_map-append}
 use Rattle.byteorder.specs.Endian.{little_bytes}
 use Rattle.cc_base.proofs.ByteLemmas.{length-little_bytes}
 use Rattle.result_cache.specs.declared.cache_form.CacheForm.TheVariants.{Second}
-use Rattle.result_cache.proofs.HeldLemmas.{take_next}
+use Rattle.result_cache.proofs.EntryLemmas.{take_next}
 use Rattle.result_cache.specs.Entries.{AreEntries, AreEntriesBehind, Entry}
 use Rattle.result_cache.specs.Spelling.{entry_bytes, entry_size, file_bytes, IsCacheFile, kept, kept_within, sized_bytes}
 

@@ -1,4 +1,7 @@
-pub mod HeldLemmas
+pub mod EntryLemmas
+mod RowLaws
+mod BucketLaws
+mod PackedLaws
 mod InvariantRead
 mod KeysRead
 mod Taken

@@ -1,5 +1,5 @@
 -- The entries of a cache: keys, each with the bytes of an invariant.
-use Rattle.std.specs.Prelude.{◌≡◌, ◌≤◌, ℕ, Bool, false, List, [], ◌∷◌, ◌++◌, length, map, Option, if◌then◌else◌}
+use Rattle.std.specs.Prelude.{◌≡◌, ◌<◌, ◌≤◌, ℕ, Bool, false, List, [], ◌∷◌, ◌++◌, length, get_or, map, Option, if◌then◌else◌}
 use Rattle.std.specs.List.{AllByRecursion, list_any}
 use Rattle.std.specs.Map.{lookup}
 use Rattle.std.specs.Str.{bytes_eq}
@@ -24,6 +24,15 @@ abbrev pub with_entry : List Entry → List ℕ → List ℕ → List Entry
 with_entry [] key invariant = (key, invariant) ∷ []
 with_entry (e ∷ es) key invariant =
     if bytes_eq key e.0 then (e.0, invariant) ∷ es else e ∷ with_entry es key invariant
+
+-- No two of these keys are the same.
+abbrev pub AreDistinct : List (List ℕ) → Type 0
+AreDistinct keys = (i j : ℕ) → i < length keys → j < length keys → get_or keys i [] ≡ get_or keys j [] → i ≡ j
+
+-- The entry at an index has a key.
+pub record IsKeyAt (entries : List Entry) (index : ℕ) (key : List ℕ) : Type 0 where
+  pub within : index < length entries
+  pub same : get_or (keys_of entries) index [] ≡ key
 
 -- No key is one of these or of those before it, and beside each stands an invariant.
 abbrev pub AreEntriesBehind : List (List ℕ) → List Entry → Type 0

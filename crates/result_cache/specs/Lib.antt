@@ -4,4 +4,5 @@ pub mod Parses
 pub mod CacheFile
 pub mod FirstForm
 pub mod Spelling
-pub mod Held
+pub mod Rows
+pub mod Buckets

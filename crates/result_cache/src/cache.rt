@@ -7,8 +7,8 @@ ghost use Rattle.result_cache.specs.Spelling.{file_bytes, IsCacheFile, kept};
 ghost use Rattle.result_cache.specs.declared.cache_form.CacheForm.TheVariants.{Second};
 
 use crate::cache_writer::{Entries, cache_bytes};
+use crate::packed::Packed;
 use cc_base::NoMemory;
-use indexmap::IndexMap;
 use std::alloc::Global;
 use std::marker::Model;
 
@@ -16,19 +16,18 @@ use std::marker::Model;
 /// order in which the keys came.
 #[derive(Drop)]
 pub struct Cache {
-    invariants: IndexMap<Vec<u8>, Vec<u8>>,
+    invariants: Packed,
 }
 
 impl Model for Cache {
     ghost use Rattle.std.specs.Prelude.{List};
     ghost use Rattle.result_cache.specs.Entries.{AreEntries, Entry};
-    ghost use Rattle.result_cache.specs.Held.{seen};
 
     ghost Value = { List Entry };
 
-    ghost view = { λ cache. seen cache.invariants.entries };
+    ghost view = { λ cache. cache.invariants };
 
-    ghost invariant = { λ cache. AreEntries (seen cache.invariants.entries) };
+    ghost invariant = { λ cache. AreEntries cache.invariants };
 }
 
 impl Cache {
@@ -37,8 +36,21 @@ impl Cache {
         ensures { result ≡ [] }
     {
         Cache {
-            invariants: IndexMap::new(alloc),
+            invariants: Packed::new(alloc),
         }
+    }
+
+    /// No entry, and room for so many, with so many bytes together.
+    pub(crate) fn with_capacity(
+        alloc: Global,
+        count: usize,
+        bytes: usize,
+    ) -> Result<Cache, NoMemory>
+        ensures { IfOk result (λ cache. cache ≡ []) }
+    {
+        Ok(Cache {
+            invariants: Packed::with_capacity(alloc, count, bytes)?,
+        })
     }
 
     /// Returns whether an entry has this key.
@@ -53,31 +65,27 @@ impl Cache {
         ensures value { option_map (λ found. found.now) result ≡ invariant_of self.now key.now }
         ensures invariant { IfSome result (λ found. IsInvariant found.now) }
     {
-        match self.invariants.get(key) {
-            Some(found) => Some(found.as_slice()),
-            None => None,
-        }
+        self.invariants.get(key)
     }
 
     /// Keeps an invariant for the unit of these bytes: in its place where one was kept for it, else behind all others.
     ///
     /// # Errors
     ///
-    /// Want of memory. Then nothing has changed, and key and invariant are given up.
-    pub fn put(&mut self, key: Vec<u8>, invariant: Vec<u8>) -> Result<(), NoMemory>
-        requires { IsInvariant invariant.items }
-        ensures ok { OnOk result (self.new ≡ with_entry self.old key.items invariant.items) }
+    /// Want of memory, also where all bytes together are 2^32 or more. Then nothing has changed.
+    pub fn put(&mut self, key: &[u8], invariant: &[u8]) -> Result<(), NoMemory>
+        requires { IsInvariant invariant.now }
+        ensures ok { OnOk result (self.new ≡ with_entry self.old key.now invariant.now) }
         ensures err { OnErr result (self.new ≡ self.old) }
     {
-        self.invariants.insert(key, invariant)?;
-        Ok(())
+        self.invariants.insert(key, invariant)
     }
 
     /// Keeps an invariant for a unit for which none was kept.
-    pub(crate) fn add(&mut self, key: Vec<u8>, invariant: Vec<u8>) -> Result<(), NoMemory>
-        requires invariant { IsInvariant invariant.items }
-        requires new { is_among (keys_of self.old) key.items ≡ false }
-        ensures { OnOk result (self.new ≡ self.old ++ (key.items, invariant.items) ∷ []) }
+    pub(crate) fn add(&mut self, key: &[u8], invariant: &[u8]) -> Result<(), NoMemory>
+        requires invariant { IsInvariant invariant.now }
+        requires new { is_among (keys_of self.old) key.now ≡ false }
+        ensures { OnOk result (self.new ≡ self.old ++ (key.now, invariant.now) ∷ []) }
     {
         self.put(key, invariant)
     }
@@ -87,10 +95,7 @@ impl Cache {
         ensures entry { option_map (λ e. (e.0.now, e.1.now)) result ≡ slice_get self.now place }
         ensures invariant { IfSome result (λ e. IsInvariant e.1.now) }
     {
-        match self.invariants.get_index(place) {
-            Some((key, invariant)) => Some((key.as_slice(), invariant.as_slice())),
-            None => None,
-        }
+        self.invariants.entry(place)
     }
 
     /// The number of entries.

@@ -75,7 +75,8 @@ impl Cache {
     /// The first fault in the order of the file, or memory ran out.
     ///
     /// Cost: linear in the number of bytes, but for what it costs to read a unit of the first form. A count takes no
-    /// memory before the entries that it counts are there; an entry takes some 110 bytes beside its own.
+    /// memory beyond 20 bytes for each ten of the file. What is read takes the bytes of all keys and invariants, and 20
+    /// for each entry; while a file of the first form is read, twice that.
     pub fn read(alloc: Global, bytes: &[u8]) -> Result<Cache, CacheRefusal>
         // It is read where no test of the list fails; a fault is that of the first test that does.
         ensures judged { JudgesOrNoMemory result (first_cache_fault bytes.now) (λ cache. cache ≡ entries_of bytes.now) }

@@ -54,8 +54,16 @@ fn read_entry(alloc: Global, bytes: &[u8], at: u32, cache: &mut Cache) -> Result
 {
     let (key, at) = read_key(bytes, at, cache)?;
     let (invariant, next) = read_invariant(alloc, bytes, at)?;
-    cache.add(key.to_vec(alloc)?, invariant.to_vec(alloc)?)?;
+    cache.add(key, invariant)?;
     Ok(next)
+}
+
+/// The fewest bytes of an entry: two lengths, and the two bytes of an invariant of no state.
+const LEAST_ENTRY_BYTES: usize = 10;
+
+/// As many entries as are counted, or as bytes can be.
+fn most_entries(bytes: &[u8], count: u32) -> usize {
+    (count as usize).min(bytes.len() / LEAST_ENTRY_BYTES)
 }
 
 /// So many entries from this offset on, and the offset after them.
@@ -71,7 +79,7 @@ pub fn read_each(
     ensures { JudgesOrNoMemory result (first_of (entry_fields count bytes.now start).tests)
         (λ read. IsRead bytes.now (entry_fields count bytes.now start) read.0 read.1) }
 {
-    let mut cache = Cache::none(alloc);
+    let mut cache = Cache::with_capacity(alloc, most_entries(bytes, count), bytes.len())?;
     let mut at = start;
     for _entry in 0..count {
         let next = read_entry(alloc, bytes, at, &mut cache)?;

@@ -48,7 +48,7 @@ fn put_second(
     ensures first { OnOk result ((second : List ℕ) → second_key key.now ≡ Some second → IsFirstOf key.now second) }
 {
     match second_key(alloc, key)? {
-        Some(second) => seconds.put(second, invariant.to_vec(alloc)?),
+        Some(second) => seconds.put(&second, invariant),
         None => Ok(()),
     }
 }

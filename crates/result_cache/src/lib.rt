@@ -1,6 +1,7 @@
 //! Invariants of units, kept in a file between calls.
 #![tactic(auto)]
 
+mod buckets;
 mod cache;
 mod cache_fault;
 mod cache_form;
@@ -9,6 +10,8 @@ mod cache_writer;
 mod entry_reader;
 mod fields;
 mod first_form;
+mod packed;
+mod row;
 
 pub use cache::Cache;
 pub use cache_fault::{CacheFault, CacheRefusal};

@@ -15,6 +15,6 @@ loop-entry-preserved c =
 
 pub returns-in_err-next : goal.returns-in_err-next
 returns-in_err-next c =
-    refusal-carried _ _ _ _ _ _ c.from_residual.ensures.1 c.in_err-next.ensures
+    refusal-carried _ _ _ _ _ _ c.from_residual-in_err-next.ensures.1 c.in_err-next.ensures
     (λ fault failed. read_fault (entry_field c.args.bytes.now) c.args.count c.args.start c.loop-entry._entry
     c.loop-entry.at c.loop-entry.cache fault (search rules) c.loop-entry.invariant.0 failed)

@@ -1,15 +1,10 @@
--- The map that holds a cache.
-use Rattle.std.proofs.Common.{◌≡◌, ℕ, zero, suc, Bool, true, false, ◌||◌, List, [], ◌∷◌, ◌++◌, take, cond, Option, None, Some, option_map, slice_get, Bor, Vec, Global, refl, sym, ap, subst, ◌∙◌}
-use Rattle.std.specs.Prelude.{OnOk, Result, Ok, Err, is_some, option_copied}
-use Rattle.std.specs.Map.{lookup}
+-- Entries of a cache.
+use Rattle.std.proofs.Common.{◌≡◌, ℕ, zero, suc, Bool, true, false, ◌||◌, List, [], ◌∷◌, ◌++◌, take, cond, Option, None, Some, option_map, slice_get, Bor, refl, sym, ap, subst, ◌∙◌}
+use Rattle.std.specs.Prelude.{IfSome, OnErr, OnOk, Result, Ok, Err, is_some}
 use Rattle.std.specs.Str.{bytes_eq}
 use Rattle.std.proofs.lemmas.List.Folds.{list_any-append}
-use Rattle.indexmap.specs.IndexMap.{insert_entry}
 use Rattle.invariant_codec.specs.Invariants.{IsInvariant}
 use Rattle.result_cache.specs.Entries.{AreEntries, AreEntriesBehind, Entry, invariant_of, is_among, keys_of, with_entry}
-use Rattle.result_cache.specs.Held.{HeldEntry, seen}
-
--- ---- the entries alone
 
 -- A key that is not there goes last.
 pub put_last : (entries : List Entry) (key invariant : List ℕ) → is_among (keys_of entries) key ≡ false
@@ -82,66 +77,6 @@ take_next (first ∷ es) zero e is =
     ap (λ (it : Entry). it ∷ []) its
 take_next (first ∷ es) (suc place) e is = ap (λ (others : List Entry). first ∷ others) (take_next es place e is)
 
--- ---- the map
-
-abbrev pub inserted : List HeldEntry → Vec ℕ Global → Vec ℕ Global → List HeldEntry
-inserted held key invariant = insert_entry (λ a b. bytes_eq a.items b.items) held key invariant
-
-pub inserted_seen : (held : List HeldEntry) (key invariant : Vec ℕ Global)
-    → seen (inserted held key invariant) ≡ with_entry (seen held) key.items invariant.items
-inserted_seen [] key invariant = refl
-inserted_seen (e ∷ held) key invariant = by (bytes_eq key.items e.0.items) (inserted_seen held key invariant)
-  where
-    by : (same : Bool) → seen (inserted held key invariant) ≡ with_entry (seen held) key.items invariant.items
-        → seen (cond same ((e.0, invariant) ∷ held) (e ∷ inserted held key invariant))
-        ≡ cond same ((e.0.items, invariant.items) ∷ seen held) ((e.0.items, e.1.items) ∷ with_entry (seen held) key.items invariant.items)
-    by true later = refl
-    by false later = ap (λ (others : List Entry). (e.0.items, e.1.items) ∷ others) later
-
-abbrev pub held_at : List ℕ → List HeldEntry → Option (Vec ℕ Global)
-held_at key held = lookup (λ other. bytes_eq key other.items) held
-
-pub found_seen : (held : List HeldEntry) (key : List ℕ)
-    → option_map (λ (found : Vec ℕ Global). found.items) (held_at key held) ≡ invariant_of (seen held) key
-found_seen [] key = refl
-found_seen (e ∷ held) key = by (bytes_eq key e.0.items) (found_seen held key)
-  where
-    by : (same : Bool) → option_map (λ (found : Vec ℕ Global). found.items) (held_at key held) ≡ invariant_of (seen held) key
-        → option_map (λ (found : Vec ℕ Global). found.items) (cond same (Some e.1) (held_at key held))
-        ≡ cond same (Some e.1.items) (invariant_of (seen held) key)
-    by true later = refl
-    by false later = later
-
-pub some_seen : (got : Option (Bor (Vec ℕ Global))) (held : List HeldEntry) (key : List ℕ) (entries : List Entry)
-    → option_copied got ≡ held_at key held → seen held ≡ entries → is_some got ≡ is_among (keys_of entries) key
-some_seen got held key entries is view =
-    borrowed got ∙ ap is_some is ∙ mapped (held_at key held)
-    ∙ ap is_some (found_seen held key ∙ ap (λ (es : List Entry). invariant_of es key) view) ∙ found_among entries key
-  where
-    borrowed : (got : Option (Bor (Vec ℕ Global))) → is_some got ≡ is_some (option_copied got)
-    borrowed None = refl
-    borrowed (Some found) = refl
-
-    mapped : (found : Option (Vec ℕ Global)) → is_some found ≡ is_some (option_map (λ (v : Vec ℕ Global). v.items) found)
-    mapped None = refl
-    mapped (Some found) = refl
-
-pub got_seen : (got : Option (Bor (Vec ℕ Global))) (held : List HeldEntry) (key : List ℕ) (entries : List Entry)
-    → option_copied got ≡ held_at key held → seen held ≡ entries
-    → option_map (λ (found : Vec ℕ Global). found.items) (option_copied got) ≡ invariant_of entries key
-got_seen got held key entries is view =
-    ap (option_map (λ (found : Vec ℕ Global). found.items)) is ∙ found_seen held key ∙ ap (λ (es : List Entry). invariant_of es key) view
-
-pub put_seen : (old new : List HeldEntry) (entries : List Entry) (key invariant : Vec ℕ Global) → seen old ≡ entries
-    → new ≡ inserted old key invariant → seen new ≡ with_entry entries key.items invariant.items
-put_seen old new entries key invariant view is =
-    ap seen is ∙ inserted_seen old key invariant ∙ ap (λ (es : List Entry). with_entry es key.items invariant.items) view
-
-pub put_kept : (old new : List HeldEntry) (key invariant : Vec ℕ Global) → new ≡ inserted old key invariant
-    → AreEntries (seen old) → IsInvariant invariant.items → AreEntries (seen new)
-put_kept old new key invariant is are its =
-    subst AreEntries (sym (ap seen is ∙ inserted_seen old key invariant)) (are_put [] (seen old) key.items invariant.items are its refl)
-
 -- An answer after which a key that was not there is last.
 pub added_last : {X Y : Type 0} (answer : Result X Y) (old new : List Entry) (key invariant : List ℕ)
     → is_among (keys_of old) key ≡ false → OnOk answer (new ≡ with_entry old key invariant)
@@ -149,9 +84,28 @@ pub added_last : {X Y : Type 0} (answer : Result X Y) (old new : List Entry) (ke
 added_last (Ok x) old new key invariant absent put = put ∙ put_last old key invariant absent
 added_last (Err e) old new key invariant absent put = tt
 
--- What stands at a place of the map.
-pub stands_seen : (held : List HeldEntry) (place : ℕ)
-    → option_map (λ (e : HeldEntry). (e.0.items, e.1.items)) (slice_get held place) ≡ slice_get (seen held) place
-stands_seen [] place = refl
-stands_seen (e ∷ held) zero = refl
-stands_seen (e ∷ held) (suc place) = stands_seen held place
+-- Entries stay entries, whatever the answer.
+pub put_kept : {X F : Type 0} (answer : Result X F) (old new : List Entry) (key invariant : List ℕ)
+    → OnOk answer (new ≡ with_entry old key invariant) → OnErr answer (new ≡ old) → AreEntries old → IsInvariant invariant → AreEntries new
+put_kept (Ok x) old new key invariant put kept are its = subst AreEntries (sym put) (are_put [] old key invariant are its refl)
+put_kept (Err e) old new key invariant put kept are its = subst AreEntries (sym kept) are
+
+-- Whether a key has an invariant.
+pub some_found : (got : Option (Bor (List ℕ))) (entries : List Entry) (key : List ℕ)
+    → option_map (λ (found : Bor (List ℕ)). found.now) got ≡ invariant_of entries key → is_some got ≡ is_among (keys_of entries) key
+some_found got entries key is = lent got ∙ ap is_some is ∙ found_among entries key
+  where
+    lent : (got : Option (Bor (List ℕ))) → is_some got ≡ is_some (option_map (λ (found : Bor (List ℕ)). found.now) got)
+    lent None = refl
+    lent (Some found) = refl
+
+pub got_is : (got : Option (Bor (List ℕ))) (entries : List Entry) (key : List ℕ) → AreEntries entries
+    → option_map (λ (found : Bor (List ℕ)). found.now) got ≡ invariant_of entries key → IfSome got (λ found. IsInvariant found.now)
+got_is None entries key are is = tt
+got_is (Some found) entries key are is = found_is [] entries key found.now are (sym is)
+
+pub entry_is : (got : Option (Bor (List ℕ) × Bor (List ℕ))) (entries : List Entry) (index : ℕ) → AreEntries entries
+    → option_map (λ (e : Bor (List ℕ) × Bor (List ℕ)). (e.0.now, e.1.now)) got ≡ slice_get entries index
+    → IfSome got (λ e. IsInvariant e.1.now)
+entry_is None entries index are is = tt
+entry_is (Some e) entries index are is = standing_is [] entries index (e.0.now, e.1.now) are (sym is)
