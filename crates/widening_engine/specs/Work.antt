@@ -65,20 +65,13 @@ abbrev pub after_ticks : ℕ → ℕ → ℕ
 after_ticks zero count = count
 after_ticks (suc n) count = after_tick (after_ticks n count)
 
--- Whatever tells whether states are equal: the count is that after so many more, or at most so many more.
-abbrev pub HasCounted : {S : Type 0} → ((S → S → Bool) → ℕ) → ℕ → ℕ → Type 0
-HasCounted {S} more old new = (equal : S → S → Bool) → IsEquality equal → new ≡ after_ticks (more equal) old
-
-abbrev pub HasCountedAtMost : {S : Type 0} → ((S → S → Bool) → ℕ) → ℕ → ℕ → Type 0
-HasCountedAtMost {S} more old new = (equal : S → S → Bool) → IsEquality equal → new ≤ old + more equal
-
 -- The test by which edges are computed again: whether states are equal, or, where every edge is computed in each round,
 -- one by which no two are.
 abbrev pub IsTestOf : {S : Type 0} → Bool → (S → S → Bool) → Type 0
 IsTestOf false equal = IsEquality equal
 IsTestOf {S} true equal = (a b : S) → equal a b ≡ false
 
--- The same of such a test.
+-- By such a test: the count is that after so many more, or at most so many more.
 abbrev pub HasCountedBy : {S : Type 0} → Bool → ((S → S → Bool) → ℕ) → ℕ → ℕ → Type 0
 HasCountedBy {S} every more old new = (equal : S → S → Bool) → IsTestOf every equal → new ≡ after_ticks (more equal) old
 

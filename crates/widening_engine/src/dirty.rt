@@ -4,8 +4,8 @@ ghost use Rattle.std.specs.Prelude.{◌≡◌, ◌≤◌, ◌+◌, ◌++◌, ◌
 ghost use Rattle.state_facts.specs.Sizes.{AreSmall};
 ghost use Rattle.unit_flow.specs.Flow.{IsLawful};
 ghost use Rattle.unit_form.specs.Spelling.{unit_bytes};
-ghost use Rattle.widening_engine.specs.Limits.{limit_of, unit_flow};
-ghost use Rattle.widening_engine.specs.Work.{HasCounted, HasCountedAtMost, work};
+ghost use Rattle.widening_engine.specs.Limits.{limit_of, unit_flow, unit_states};
+ghost use Rattle.widening_engine.specs.Work.{after_ticks, work};
 
 use crate::finder::{Finder, find_invariant};
 use domain_api::{NoMemory, Ticks};
@@ -52,8 +52,9 @@ impl Finder for Dirty {
         ensures asked { OnOk result (map (λ bytes. bytes.items) self.new.asked.items ≡ map (λ bytes. bytes.items) self.old.asked.items ++ unit_bytes code.now.unit ∷ []) }
         ensures kept { OnErr result (map (λ bytes. bytes.items) self.new.asked.items ≡ map (λ bytes. bytes.items) self.old.asked.items) }
         // In every answer.
-        ensures work { HasCountedAtMost (λ equal. work equal (unit_flow code.now)) self.old.meter.count self.new.meter.count }
-        ensures ticked { OnOk result (HasCounted (λ equal. work equal (unit_flow code.now)) self.old.meter.count self.new.meter.count) }
+        ensures work { self.new.meter.count ≤ self.old.meter.count + work unit_states.equal (unit_flow code.now) }
+        ensures ticked { OnOk result
+            (self.new.meter.count ≡ after_ticks (work unit_states.equal (unit_flow code.now)) self.old.meter.count) }
     {
         find_invariant(alloc, code, false, &mut self.asked, &mut self.meter)
     }

@@ -1,16 +1,16 @@
 //! The rounds, and where they settle. What is kept from one to the next spares most of the work.
 
-ghost use Rattle.std.specs.Prelude.{◌≡◌, ◌⊎◌, ◌<◌, ◌≤◌, ◌+◌, ◌*◌, ◌^◌, ◌∷◌, [], true, map, length, IfOk, OnOk};
+ghost use Rattle.std.specs.Prelude.{◌≡◌, ◌⊎◌, ◌<◌, ◌≤◌, ◌+◌, ◌*◌, ◌^◌, ◌∷◌, [], ◌↔◌, true, map, length, IfOk, IsTrue, OnOk};
 ghost use Rattle.widening_engine.specs.Flows.{AreEdges, AreNumbered, FitBlocks, IsGraphOf, flow_of};
 ghost use Rattle.widening_engine.specs.Kept.{IsKept, states_of};
 ghost use Rattle.widening_engine.specs.Rounds.{all_unknown, first_inductive, is_head, is_inductive, limit, never_reached, next, places, settled};
-ghost use Rattle.widening_engine.specs.Work.{HasCounted, HasCountedAtMost, HasCountedAtMostBy, HasCountedBy, IsTried, after_ticks, changes_along, first_stop, rounds, sought, tried, work};
+ghost use Rattle.widening_engine.specs.Work.{HasCountedAtMostBy, HasCountedBy, IsTried, after_ticks, changes_along, first_stop, rounds, sought, tried, work};
 
 use crate::heads::heads;
 use crate::kept::Kept;
 use domain_api::{FlowState, NoMemory};
 use flow_graph::{Edge, Graph};
-use std::alloc::Global;
+use std::alloc::{AllocError, Global};
 
 /// States, one for each block.
 pub type States<S> = Vec<S>;
@@ -115,9 +115,16 @@ fn settle<S: FlowState + Drop>(
     Ok(found)
 }
 
-/// The states where the analysis of code settles, one for each block. In each round every edge is computed, or those
-/// whose source has changed.
-pub(crate) fn kept_limit<S: FlowState + Drop>(
+/// Whether blocks and edges have numbers of 32 bits.
+fn are_numbered(graph: &Graph) -> bool
+    ensures { IsTrue result ↔ ((length graph.now.blocks < 2 ^ 32) × (length graph.now.edges < 2 ^ 32)) }
+{
+    let most = u32::MAX as usize;
+    graph.blocks.as_slice().len() <= most && graph.edges.as_slice().len() <= most
+}
+
+/// The states where the analysis of code settles, where blocks and edges have numbers of 32 bits.
+fn numbered_limit<S: FlowState + Drop>(
     alloc: Global,
     code: &S::Code,
     graph: &Graph,
@@ -143,12 +150,36 @@ pub(crate) fn kept_limit<S: FlowState + Drop>(
     Ok(states)
 }
 
+/// The states where the analysis of code settles, one for each block. In each round every edge is computed, or those
+/// whose source has changed. `NoMemory` also where there are 2^32 blocks or edges, or more.
+pub(crate) fn kept_limit<S: FlowState + Drop>(
+    alloc: Global,
+    code: &S::Code,
+    graph: &Graph,
+    every: bool,
+    meter: &mut S::Gauge,
+) -> Result<States<S>, NoMemory>
+    requires lawful { S.lawful code.now }
+    requires graph { IsGraphOf (flow_of S.FlowState.own S.Lattice code.now) graph.now }
+    ensures value { IfOk result (λ states. states.items ≡ limit (flow_of S.FlowState.own S.Lattice code.now)) }
+    ensures fit { IfOk result (λ states. FitBlocks (flow_of S.FlowState.own S.Lattice code.now) (S.fits code.now) states.items) }
+    ensures work { HasCountedAtMostBy every (λ equal. work equal (flow_of S.FlowState.own S.Lattice code.now)) (S.Gauge.count meter.old) (S.Gauge.count meter.new) }
+    ensures ticked { OnOk result
+        (HasCountedBy every (λ equal. work equal (flow_of S.FlowState.own S.Lattice code.now)) (S.Gauge.count meter.old) (S.Gauge.count meter.new)) }
+{
+    if !are_numbered(graph) {
+        return Err(AllocError);
+    }
+    numbered_limit(alloc, code, graph, every, meter)
+}
+
 /// The states where the analysis of code settles, one for each block.
 ///
 /// At first nothing is reached anywhere. A round joins what flows into each block along its edges, and from the third
 /// round on heads of loops are widened. The states of the first inductive round are carried on for two plain rounds,
 /// and are the answer themselves where that is not inductive. Where no round is inductive up to number 40 and four for
-/// each block, nothing is known, and that is carried on in the same way. `NoMemory` where memory runs out.
+/// each block, nothing is known, and that is carried on in the same way. `NoMemory` where memory runs out, which
+/// 2^32 blocks or edges count as.
 ///
 /// Cost: in each round one walk along each edge, and besides what [`kept_rounds`](crate::kept_rounds) costs.
 pub fn limit<S: FlowState + Drop>(
@@ -159,7 +190,6 @@ pub fn limit<S: FlowState + Drop>(
 ) -> Result<Vec<S>, NoMemory>
     requires lawful { S.lawful code.now }
     requires graph { IsGraphOf (flow_of S.FlowState.own S.Lattice code.now) graph.now }
-    requires numbered { AreNumbered (flow_of S.FlowState.own S.Lattice code.now) }
     ensures value { IfOk result (λ states. states.items ≡ limit (flow_of S.FlowState.own S.Lattice code.now)) }
     ensures fit { IfOk result (λ states. FitBlocks (flow_of S.FlowState.own S.Lattice code.now) (S.fits code.now) states.items) }
     // They are inductive, or nothing is known.
@@ -179,7 +209,8 @@ pub fn limit<S: FlowState + Drop>(
 /// The state along an edge is kept, and computed again only where that of its source has changed. A block is joined
 /// again only where the state along an edge to it is another one, and a head is widened in each late round until that
 /// gives the state that it has. So the meter rises by at most the `work` of the rounds: by one for each edge, and then
-/// for each round by the number of edges whose source has another state than before. `NoMemory` where memory runs out.
+/// for each round by the number of edges whose source has another state than before, as `same` tells. `NoMemory` where
+/// memory runs out, which 2^32 blocks or edges count as.
 ///
 /// Cost: besides, in each round a look at each block and each edge, a comparison for each edge up to the first that is
 /// not carried, but for those that were found carried and where neither the state along the edge nor that of its
@@ -193,12 +224,12 @@ pub fn kept_rounds<S: FlowState + Drop>(
 ) -> Result<States<S>, NoMemory>
     requires lawful { S.lawful code.now }
     requires graph { IsGraphOf (flow_of S.FlowState.own S.Lattice code.now) graph.now }
-    requires numbered { AreNumbered (flow_of S.FlowState.own S.Lattice code.now) }
     ensures value { IfOk result (λ states. states.items ≡ limit (flow_of S.FlowState.own S.Lattice code.now)) }
     // In every answer.
-    ensures work { HasCountedAtMost (λ equal. work equal (flow_of S.FlowState.own S.Lattice code.now)) (S.Gauge.count meter.old) (S.Gauge.count meter.new) }
-    ensures ticked { OnOk result
-        (HasCounted (λ equal. work equal (flow_of S.FlowState.own S.Lattice code.now)) (S.Gauge.count meter.old) (S.Gauge.count meter.new)) }
+    ensures work { let flow = flow_of S.FlowState.own S.Lattice code.now in
+        S.Gauge.count meter.new ≤ S.Gauge.count meter.old + work S.equal flow }
+    ensures ticked { let flow = flow_of S.FlowState.own S.Lattice code.now in
+        OnOk result (S.Gauge.count meter.new ≡ after_ticks (work S.equal flow) (S.Gauge.count meter.old)) }
 {
     kept_limit(alloc, code, graph, false, meter)
 }

@@ -4,7 +4,7 @@ use Rattle.widening_engine.specs.Rounds.{Flow}
 use Rattle.widening_engine.proofs.Marks.{heads_in_flow}
 use Rattle.widening_engine.proofs.Rounds.{limit_from}
 use Rattle.widening_engine.proofs.Seeking.{begun_most, sought_within, whole, whole_most}
-use Rattle.widening_engine.proofs.keeping.kept_limit.Goals as goal
+use Rattle.widening_engine.proofs.keeping.numbered_limit.Goals as goal
 
 pub returns-in_err-kept-clause-work : goal.returns-in_err-kept-clause-work
 returns-in_err-kept-clause-work g c =
