@@ -1,11 +1,10 @@
 -- Steps of the code that finds what follows at returns.
-use Rattle.std.proofs.Common.{◌≡◌, ℕ, ◌+◌, ◌-◌, ◌<◌, ◌≤◌, Bool, true, false, List, [], ◌∷◌, ◌++◌, length, get_or, take, map, Option, Some, None, refl, sym, ap, subst, ◌∙◌, length-append, arith, inl, inr, zero, suc}
+use Rattle.std.proofs.Common.{◌≡◌, ℕ, ◌+◌, ◌-◌, ◌<◌, ◌≤◌, Bool, true, false, List, [], ◌∷◌, ◌++◌, length, get_or, take, refl, sym, ap, ◌∙◌, arith, inl, inr}
 use Rattle.std.specs.Prelude.{filter_map, option_to_list}
 use Rattle.std.specs.List.{AllByRecursion}
 use Rattle.std.proofs.lemmas.Bool.{cases_Bool}
 use Rattle.std.proofs.lemmas.List.{length-take}
 use Rattle.cil_model.specs.Limits.{MAX_CLAUSES}
-use Rattle.cil_model.specs.WellFormed.{ClausesWithinLimits, IsWellFormed}
 use Rattle.cil_model.specs.declared.unit.Unit.{Unit as MethodUnit}
 use Rattle.cil_model.proofs.Lists.{all_take}
 use Rattle.invariant_checker.specs.Inducts.{is_inductive}
@@ -35,19 +34,6 @@ one_more_shown n returns all k d below found more before here =
     let given = option_to_list (f (get_or all k d)) in
     here ∙ (ap (λ (rs : List Inferred). take n (rs ++ given)) before
     ∙ (taken_twice n (filter_map f (take k all)) given ∙ ap (take n) (sym (one_more_filtered f all k d below))))
-
-pub within_room : (n : ℕ) (xs found : List Inferred) → found ≡ take n xs → length found ≤ n
-within_room n xs found is = omega (arith, ap (λ (ys : List Inferred). length ys) is, length-take n xs)
-
--- ---- at some returns
-
--- Where a unit returns, what is shown there is what follows of its rows.
-pub shown_there : (unit : MethodUnit) (returns : List State) → (returns ≡ [] → ⊥)
-    → shown_at unit returns
-    ≡ take (MAX_CLAUSES - length unit.clauses)
-    (filter_map (shown_of returns) (rows unit.result unit.args (ranges_at returns)))
-shown_there unit [] some = absurd (some refl)
-shown_there unit (state ∷ others) some = refl
 
 -- ---- what may be added
 

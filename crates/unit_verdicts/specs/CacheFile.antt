@@ -10,8 +10,6 @@ use Rattle.result_cache.specs.Spelling.{IsCacheFile, file_bytes, kept}
 use Rattle.unit_form.specs.Spelling.{unit_bytes}
 use Rattle.result_cache.specs.declared.cache_form.CacheForm.TheVariants.{Second}
 use Rattle.unit_verdicts.specs.Picks.{limit_pick, states_in}
-use Rattle.unit_verdicts.specs.declared.source.Source.{Source}
-use Rattle.unit_verdicts.specs.declared.source.Source.TheVariants.{Cache as OfCache, Proof as OfProof}
 
 -- The bytes of what a finder answers of a unit.
 unfoldable pub limit_bytes : MethodUnit → List ℕ
@@ -45,11 +43,6 @@ pub record IsHonest (entry : Entry) : Type 0 where
 
 abbrev pub AreHonest : List Entry → Type 0
 AreHonest entries = AllByRecursion IsHonest entries
-
--- What is held is that of a cache file, and its entries are honest.
-abbrev pub IsHonestSource : Source → Type 0
-IsHonestSource (OfCache entries) = AreHonest entries
-IsHonestSource (OfProof entries) = ⊥
 
 -- The bytes are a cache file, and its entries are honest.
 pub record IsHonestFile (bytes : List ℕ) : Type 0 where
