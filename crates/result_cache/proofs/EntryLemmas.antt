@@ -77,18 +77,19 @@ take_next (first ∷ es) zero e is =
     ap (λ (it : Entry). it ∷ []) its
 take_next (first ∷ es) (suc place) e is = ap (λ (others : List Entry). first ∷ others) (take_next es place e is)
 
--- An answer after which a key that was not there is last.
-pub added_last : {X Y : Type 0} (answer : Result X Y) (old new : List Entry) (key invariant : List ℕ)
-    → is_among (keys_of old) key ≡ false → OnOk answer (new ≡ with_entry old key invariant)
-    → OnOk answer (new ≡ old ++ (key, invariant) ∷ [])
-added_last (Ok x) old new key invariant absent put = put ∙ put_last old key invariant absent
-added_last (Err e) old new key invariant absent put = tt
-
 -- Entries stay entries, whatever the answer.
 pub put_kept : {X F : Type 0} (answer : Result X F) (old new : List Entry) (key invariant : List ℕ)
     → OnOk answer (new ≡ with_entry old key invariant) → OnErr answer (new ≡ old) → AreEntries old → IsInvariant invariant → AreEntries new
 put_kept (Ok x) old new key invariant put kept are its = subst AreEntries (sym put) (are_put [] old key invariant are its refl)
 put_kept (Err e) old new key invariant put kept are its = subst AreEntries (sym kept) are
+
+-- So they do with one more of a key that is not there.
+pub added_kept : {X F : Type 0} (answer : Result X F) (old new : List Entry) (key invariant : List ℕ)
+    → is_among (keys_of old) key ≡ false → OnOk answer (new ≡ old ++ (key, invariant) ∷ []) → OnErr answer (new ≡ old)
+    → AreEntries old → IsInvariant invariant → AreEntries new
+added_kept (Ok x) old new key invariant absent added kept are its =
+    subst AreEntries (sym (added ∙ sym (put_last old key invariant absent))) (are_put [] old key invariant are its refl)
+added_kept (Err e) old new key invariant absent added kept are its = subst AreEntries (sym kept) are
 
 -- Whether a key has an invariant.
 pub some_found : (got : Option (Bor (List ℕ))) (entries : List Entry) (key : List ℕ)

@@ -87,7 +87,7 @@ impl Cache {
         requires new { is_among (keys_of self.old) key.now ≡ false }
         ensures { OnOk result (self.new ≡ self.old ++ (key.now, invariant.now) ∷ []) }
     {
-        self.put(key, invariant)
+        self.invariants.push(key, invariant)
     }
 
     /// The entry at this place.

@@ -186,8 +186,8 @@ impl Packed {
         }
     }
 
-    /// Adds an entry of a new key.
-    fn push(&mut self, key: &[u8], value: &[u8]) -> Result<(), NoMemory>
+    /// Adds an entry of a new key, which is not looked for.
+    pub fn push(&mut self, key: &[u8], value: &[u8]) -> Result<(), NoMemory>
         requires { is_among (keys_of self.old) key.now ≡ false }
         ensures ok { OnOk result (self.new ≡ self.old ++ (key.now, value.now) ∷ []) }
         ensures err { OnErr result (self.new ≡ self.old) }
