@@ -1,7 +1,7 @@
 //! Entries in buckets, by the hashes of their keys.
 //!
-//! The hash is SipHash-1-3 with fixed keys: whoever makes a file can find keys of one bucket by trying, and each of them
-//! costs as many tries as there are buckets.
+//! The hash is SipHash-1-3 with fixed keys: whoever makes a file can find keys of one bucket by trying, and each of
+//! them costs as many tries as there are buckets.
 
 ghost use Rattle.std.specs.Prelude.{◌≡◌, ℕ, ◌+◌, ◌<◌, ◌≤◌, ◌^◌, List, [], length, get_or, set, false, IfSome, IfNone};
 ghost use Rattle.result_cache.specs.Buckets.{AreChained, AreRows, bucket_of, hash_of};

@@ -1,8 +1,8 @@
 //! Values by keys, all in one vector of bytes.
 //!
 //! A map of vectors takes some 110 bytes for each entry beside its own, and two allocations: ten times the size of a
-//! cache file of the shortest entries. Here an entry takes 20 bytes, 16 for its row and 4 for a bucket, while entries are
-//! no more than was asked for; where they are added one by one, the vectors have up to twice the room.
+//! cache file of the shortest entries. Here an entry takes 20 bytes, 16 for its row and 4 for a bucket, while entries
+//! are no more than was asked for; where they are added one by one, the vectors have up to twice the room.
 
 ghost use Rattle.std.specs.Prelude.{◌≡◌, ◌+◌, ◌<◌, ◌^◌, ◌++◌, [], ◌∷◌, false, length, get_or, set, option_map, slice_get, IfOk, IfSome, IfNone, OnErr, OnOk, vec_len, vec_capacity};
 ghost use Rattle.result_cache.specs.Buckets.{AreChained, AreRows, bucket_of};
@@ -212,8 +212,8 @@ impl Packed {
 
     /// Gives a key a value: in its place where it has one, else behind all others. After an error nothing has changed.
     ///
-    /// Cost: linear in the bytes of the entry, and now and then a pass over all entries, when they come to be as many as
-    /// the buckets, which are then twice as many.
+    /// Cost: linear in the bytes of the entry, and now and then a pass over all entries: when they come to be as many as
+    /// the buckets, which are then doubled.
     pub fn insert(&mut self, key: &[u8], value: &[u8]) -> Result<(), NoMemory>
         ensures ok { OnOk result (self.new ≡ with_entry self.old key.now value.now) }
         ensures err { OnErr result (self.new ≡ self.old) }
