@@ -378,12 +378,13 @@ pub fn run_words<F: Files, O: Sink, E: Sink, D: Finder>(
     ensures refuted { (held : Held) (bytes : List ℕ) (token : Token) → F.held files.old ≡ Some held
         → AsksToRefute (words_bytes words.now) held bytes token → PrintsRefuted (O.written out.old) (O.written out.new)
         → Safe (world_of bytes token.0) 0 → ⊥ }
-    // The unit of a method of an assembly that the assembly's report has told to be proved is safe: as it is written,
-    // or where the report was made with what is inferred, with that.
+    // The unit of a method of an assembly that the assembly's report has told to be proved is safe, where the report was
+    // made of the methods as they are written.
     ensures checked { (held : Held) (k : ℕ) (bytes text : List ℕ) (method : MethodRow) → F.held files.old ≡ Some held
         → IsAssemblyOf (words_bytes words.now) held k bytes → WasAppended (O.written out.old) (O.written out.new) text
         → Contains (methods_of bytes) method → HasProvedLine (section k text) method
         → infers (command_of (words_bytes words.now)) ≡ false → IsSafeMethod bytes method }
+    // Where it was made with what is inferred, that unit is safe with this.
     ensures checked_inferred { (held : Held) (k : ℕ) (bytes text : List ℕ) (method : MethodRow) → F.held files.old ≡ Some held
         → IsAssemblyOf (words_bytes words.now) held k bytes → WasAppended (O.written out.old) (O.written out.new) text
         → Contains (methods_of bytes) method → HasProvedLine (section k text) method
@@ -396,8 +397,9 @@ pub fn run_words<F: Files, O: Sink, E: Sink, D: Finder>(
     ensures unwritten_cause { result ≡ 6 →
         IfEither (proof_name (words_bytes words.now)) (cache_name (words_bytes words.now)) (Rose (F.faults files.old) (F.faults files.new))
         ⊎ (Rose (O.faults out.old) (O.faults out.new) ⊎ Rose (E.faults err.old) (E.faults err.new)) }
-    // Words that are no command are told so, unless that line is interrupted.
+    // Status 2 comes only where the words are no command.
     ensures usage { result ≡ 2 → command_of (words_bytes words.now) ≡ None }
+    // Words that are no command are told so, unless that line is interrupted.
     ensures no_command { command_of (words_bytes words.now) ≡ None → (result ≡ 2) ⊎ ((result ≡ 6) ⊎ (result ≡ 7)) }
 {
     let answered = answer_words(alloc, words, files, out, err, finder);

@@ -169,12 +169,6 @@ sought_next bytes rows heads key mine number i same are is at mine_is same_is ot
     true_or_false : true ≡ false → ⊥
     true_or_false it = absurd cc
 
-pub next_less : (bytes : List ℕ) (rows : List Row) (heads key : List ℕ) (number i : ℕ) → AreRows bytes rows heads
-    → IsSought bytes rows (length heads) key number → number ≡ suc i → next_at rows i < number
-next_less bytes rows heads key number i are is at =
-    let last = are.chained.entries i (omega (arith, at, is.within)) in
-    omega (arith, at, last.within)
-
 none_among : (keys : List (List ℕ)) (key : List ℕ) → ((i : ℕ) → i < length keys → get_or keys i [] ≢ key) → is_among keys key ≡ false
 none_among [] key none = refl
 none_among (first ∷ keys) key none =

@@ -74,9 +74,10 @@ impl Cache {
     ///
     /// The first fault in the order of the file, or memory ran out.
     ///
-    /// Cost: linear in the number of bytes, but for what it costs to read a unit of the first form. A count takes no
-    /// memory beyond 20 bytes for each ten of the file. What is read takes the bytes of all keys and invariants, and 20
-    /// for each entry; while a file of the first form is read, twice that.
+    /// Cost: linear in the number of bytes, but for what it costs to read a unit of the first form, and for keys that
+    /// were made to stand in one bucket (buckets.rt). Room is taken for as many bytes as the file has, and 20 for each
+    /// entry that is counted, but for one in ten bytes at most. What is read of the first form is held twice then, and
+    /// the second time in vectors that grow.
     pub fn read(alloc: Global, bytes: &[u8]) -> Result<Cache, CacheRefusal>
         // It is read where no test of the list fails; a fault is that of the first test that does.
         ensures judged { JudgesOrNoMemory result (first_cache_fault bytes.now) (λ cache. cache ≡ entries_of bytes.now) }

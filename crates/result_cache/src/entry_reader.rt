@@ -1,6 +1,6 @@
 //! Entries, as they stand in a cache file.
 
-ghost use Rattle.std.specs.Prelude.{◌≡◌, ◌≤◌, ◌++◌, [], ◌∷◌, false, length};
+ghost use Rattle.std.specs.Prelude.{◌≡◌, ◌≤◌, ◌*◌, ◌++◌, [], ◌∷◌, false, length};
 ghost use Rattle.cc_base.specs.Tests.{first_of, Judges, JudgesOrNoMemory};
 ghost use Rattle.result_cache.specs.CacheFile.{entry_field, entry_fields, invariant_field, key_field};
 ghost use Rattle.invariant_codec.specs.Invariants.{IsInvariant};
@@ -61,8 +61,11 @@ fn read_entry(alloc: Global, bytes: &[u8], at: u32, cache: &mut Cache) -> Result
 /// The fewest bytes of an entry: two lengths, and the two bytes of an invariant of no state.
 const LEAST_ENTRY_BYTES: usize = 10;
 
-/// As many entries as are counted, or as bytes can be.
-fn most_entries(bytes: &[u8], count: u32) -> usize {
+/// As many entries as are counted, or as so many bytes can be.
+fn most_entries(bytes: &[u8], count: u32) -> usize
+    ensures counted { result ≤ count }
+    ensures bytes { result * 10 ≤ length bytes.now }
+{
     (count as usize).min(bytes.len() / LEAST_ENTRY_BYTES)
 }
 

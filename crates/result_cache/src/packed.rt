@@ -15,11 +15,11 @@ use cc_base::NoMemory;
 use std::alloc::{AllocError, Global};
 use std::marker::Model;
 
-/// The fewest buckets, where there are some.
+/// The buckets of the first entries that are added one by one.
 const FEWEST: usize = 8;
 
 /// Values by keys, in the order in which the keys came. The bytes of all stand in one vector, which also keeps those of
-/// a value that was replaced.
+/// an entry whose value was replaced.
 #[derive(Drop)]
 pub struct Packed {
     alloc: Global,
@@ -212,8 +212,8 @@ impl Packed {
 
     /// Gives a key a value: in its place where it has one, else behind all others. After an error nothing has changed.
     ///
-    /// Cost: linear in the bytes of the entry, and now and then a pass over all entries: when they come to be as many as
-    /// the buckets, which are then doubled.
+    /// Cost: linear in the bytes of the entry. When the entries come to be as many as the buckets, these are doubled, and
+    /// all keys are hashed again.
     pub fn insert(&mut self, key: &[u8], value: &[u8]) -> Result<(), NoMemory>
         ensures ok { OnOk result (self.new ≡ with_entry self.old key.now value.now) }
         ensures err { OnErr result (self.new ≡ self.old) }

@@ -3,7 +3,7 @@ use Rattle.std.proofs.Common.{◌≡◌, ℕ, Bool, true, false, List, [], ◌�
 use Rattle.std.specs.Prelude.{is_some, not}
 use Rattle.std.proofs.lemmas.List.Elements.{filter-append}
 use Rattle.result_cache.specs.Entries.{Entry, invariant_of, is_among, keys_of}
-use Rattle.result_cache.proofs.HeldLemmas.{found_among}
+use Rattle.result_cache.proofs.EntryLemmas.{found_among}
 use Rattle.unit_verdicts.specs.Asked.{Asks, AsksFront, asked_from, unseen, without_entry}
 use Rattle.unit_verdicts.specs.declared.source.Source.{Source}
 use Rattle.unit_verdicts.specs.declared.source.Source.TheVariants.{Cache as OfCache, Proof as OfProof}

@@ -2,7 +2,7 @@ use Rattle.std.proofs.Common.{◌≡◌, ℕ, suc, ◌+◌, List, [], ◌∷◌,
 use Rattle.proof_files.specs.Held.{IsMadeOf}
 use Rattle.proof_files.specs.Proofs.{Entry}
 use Rattle.result_cache.specs.Entries.{Entry as CacheEntry}
-use Rattle.result_cache.proofs.HeldLemmas.{standing_is, take_next}
+use Rattle.result_cache.proofs.EntryLemmas.{standing_is, take_next}
 use Rattle.unit_verdicts.specs.ProofLeft.{spelled_entries}
 use Rattle.unit_verdicts.proofs.Spelled.{entries_next, spelled_next}
 use Rattle.unit_verdicts.proofs.proof_left.proof_text.Goals as goal
