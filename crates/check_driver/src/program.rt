@@ -378,8 +378,8 @@ pub fn run_words<F: Files, O: Sink, E: Sink, D: Finder>(
     ensures refuted { (held : Held) (bytes : List ℕ) (token : Token) → F.held files.old ≡ Some held
         → AsksToRefute (words_bytes words.now) held bytes token → PrintsRefuted (O.written out.old) (O.written out.new)
         → Safe (world_of bytes token.0) 0 → ⊥ }
-    // The unit of a method of an assembly that the assembly's report has told to be proved is safe, where the report was
-    // made of the methods as they are written.
+    // The unit of a method of an assembly that the assembly's report has told to be proved is safe, where the report
+    // was made of the methods as they are written.
     ensures checked { (held : Held) (k : ℕ) (bytes text : List ℕ) (method : MethodRow) → F.held files.old ≡ Some held
         → IsAssemblyOf (words_bytes words.now) held k bytes → WasAppended (O.written out.old) (O.written out.new) text
         → Contains (methods_of bytes) method → HasProvedLine (section k text) method

@@ -212,8 +212,8 @@ impl Packed {
 
     /// Gives a key a value: in its place where it has one, else behind all others. After an error nothing has changed.
     ///
-    /// Cost: linear in the bytes of the entry. When the entries come to be as many as the buckets, these are doubled, and
-    /// all keys are hashed again.
+    /// Cost: linear in the bytes of the entry. When the entries come to be as many as the buckets, these are doubled,
+    /// and all keys are hashed again.
     pub fn insert(&mut self, key: &[u8], value: &[u8]) -> Result<(), NoMemory>
         ensures ok { OnOk result (self.new ≡ with_entry self.old key.now value.now) }
         ensures err { OnErr result (self.new ≡ self.old) }
