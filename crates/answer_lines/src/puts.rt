@@ -1,4 +1,7 @@
 //! Lines, put to a sink.
+//!
+//! That each line is one put is said by counts: as many puts as line feeds. So texts stay lists of bytes in every
+//! definition. Where they are cut, the cases see.
 
 #![tactic(auto, using(cc_base::proofs::SinkLemmas::sinks, cc_base::proofs::CountLemmas::counts, crate::proofs::LineLemmas::lines))]
 

@@ -1,4 +1,7 @@
 //! Numbers of calls of the class `Contract`.
+//!
+//! The class is known by its name and its namespace, whatever assembly it is taken from. Also where a linked file has
+//! such a class, a call of a listed method of it is a contract call, and means no method.
 
 /// A call of a method of `System.Diagnostics.Contracts.Contract`, by its number.
 ///

@@ -1,4 +1,9 @@
 //! Assemblies whose calls mean each other's methods.
+//!
+//! Files are linked with each other and each with itself. Names are compared as they are stored and signatures as they
+//! are read, so of a file that is given twice no method is meant from outside. Methods of no type have a class of two
+//! empty names. A table finds the method that a call means, and the definition goes over all methods: no clause speaks
+//! of hashes. More than 2^32 files count as want of memory.
 
 ghost use Rattle.std.specs.Prelude.{◌≡◌, ◌<◌, ◌≤◌, ◌^◌, length, IfOk};
 ghost use Rattle.asm_image.specs.Calls.{callee_of};

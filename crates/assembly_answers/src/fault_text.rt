@@ -1,4 +1,7 @@
 //! The words of each fault of a file.
+//!
+//! The words of faults stand in functions of their own, not in the text that an error type derives: of that the library
+//! promises nothing.
 
 ghost use Rattle.std.specs.Prelude.{◌≡◌};
 ghost use Rattle.assembly_answers.specs.FaultText.{unit_fault_text, pe_fault_text, table_fault_text, signature_fault_text, assembly_fault_text};

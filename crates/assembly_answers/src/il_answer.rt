@@ -1,4 +1,7 @@
 //! The answer to `il FILE METHOD`.
+//!
+//! `il` reports no fault of code, has no limit on its length, and reads the table of names though it looks up one: a
+//! second way to find a method would have to be proved too.
 
 #![tactic(auto, using(cc_base::proofs::SinkLemmas::sinks, cc_base::proofs::CountLemmas::counts, answer_lines::proofs::LineLemmas::puts_none))]
 

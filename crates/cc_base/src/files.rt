@@ -1,4 +1,7 @@
 //! The files that a program reads and replaces.
+//!
+//! A read is cut one byte after the largest file that is accepted, so that a larger file is reported as too large and
+//! never as something else.
 
 ghost use Rattle.std.specs.Prelude.{◌≡◌, ℕ, Option, None, IsSome, IsErrOf, IfOk, OnOk, ◌⊎◌};
 ghost use Rattle.std.specs.Option.{ForSome};

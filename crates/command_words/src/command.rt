@@ -1,4 +1,8 @@
 //! The words that the program is given.
+//!
+//! Words that are arguments of no form are no command, whatever the method is. Whether an argument is one for its
+//! parameter is asked when the method is known. `--steps` and `--runs` count where they are the last word but one;
+//! anywhere else they are no argument, and the words are no command.
 
 ghost use Rattle.std.specs.Prelude.{◌≡◌, [], ◌∷◌, ◌+◌, ◌<◌, ◌≤◌, ◌^◌, All, IfOk, IfSome, IsTrue, length, string_bytes};
 ghost use Rattle.std.specs.List.{list_all};

@@ -1,4 +1,7 @@
 //! The words of a check with references.
+//!
+//! A check with references is a command of its own: what is promised of `check` is said of calls without references,
+//! and what is promised of linked files has clauses of its own.
 
 ghost use Rattle.std.specs.Prelude.{◌≡◌, [], ◌∷◌, ◌+◌, ◌<◌, ◌≤◌, ◌^◌, ◌++◌, All, IfOk, IfSome, List, OnOk, ℕ, count_by, filter, length, not, option_to_list};
 ghost use Rattle.std.specs.List.{list_any};

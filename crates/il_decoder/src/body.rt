@@ -1,4 +1,7 @@
 //! A method's body: its header, and its code after it (II.25.4).
+//!
+//! Header and code are looked up together at the header's address: empty code after a header at a section's last byte
+//! is whole.
 
 ghost use Rattle.std.specs.Prelude.{◌≡◌, ◌<◌, ◌==◌, IfErr, IfOk, None, Some, length};
 ghost use Rattle.std.specs.Int.{bit_at};

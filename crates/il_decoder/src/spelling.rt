@@ -1,4 +1,8 @@
 //! The bytes of an instruction.
+//!
+//! The table of opcodes is the definition of how instructions are spelled. A switch is spelled apart, since its operand
+//! has no fixed width. A branch counts its target modulo 2^32, so that every operand has a target; all instructions are
+//! tested before the first target.
 
 ghost use Rattle.std.specs.Prelude.{◌≡◌, ℕ, ◌+◌, ◌%◌, ◌^◌, ◌≤◌, List, ◌++◌, ◌∷◌, [], OnOk, OnErr, length};
 ghost use Rattle.std.specs.List.{flat_map};

@@ -1,4 +1,7 @@
 //! The methods that code calls.
+//!
+//! Callees are told apart by token: two methods of one printed name are two callees, and a fault that names one prints
+//! the same text for both.
 
 ghost use Rattle.std.specs.Prelude.{◌≡◌, ◌==◌, IfOk, IfSome, ◌<◌, length, position};
 ghost use Rattle.method_code.specs.Called.{called_by_op, callee_key, callees_of};

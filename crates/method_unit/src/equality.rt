@@ -1,4 +1,6 @@
 //! Whether two units are equal.
+//!
+//! Units are compared by their spelled fields: instructions, clauses and the body's start come of these.
 
 ghost use Rattle.std.specs.Prelude.{◌≡◌};
 ghost use Rattle.std.specs.Bool.{Decides};

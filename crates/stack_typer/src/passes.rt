@@ -1,4 +1,6 @@
 //! The typing of a method's code, in passes.
+//!
+//! The first fault of kinds is that of so many passes as settle any code: a function, so that what is printed is one.
 
 ghost use Rattle.std.specs.Prelude.{◌≡◌, Some, length, slice_get, IfOk, OnOk};
 ghost use Rattle.cc_base.specs.Tests.{JudgesOrNoMemory, GivesOnly, RefusesOnly};

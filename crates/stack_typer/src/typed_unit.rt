@@ -1,4 +1,7 @@
 //! Units with the kinds of their code.
+//!
+//! What reads a unit answers it with its kinds, and what flows is a unit with graph and kinds: each is found once for
+//! finder and judge. Contracts see the unit alone.
 
 ghost use Rattle.std.specs.Prelude.{◌≡◌};
 ghost use Rattle.cil_model.specs.Passes.{KindsOf};

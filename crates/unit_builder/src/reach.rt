@@ -1,4 +1,8 @@
 //! Which methods a method reaches by calls.
+//!
+//! A method of which a callee is not analysed is analysed itself: what is known of the callee is its types, and its
+//! clauses where these read. To run it, all that its calls can reach has to be analysed, also where the run never comes
+//! there.
 
 ghost use Rattle.std.specs.Prelude.{◌≡◌, ◌+◌, ◌≤◌, ◌^◌, [], length, IfOk, IsSome};
 ghost use Rattle.asm_image.specs.Bodies.{method_of};

@@ -1,4 +1,7 @@
 //! The files whose methods may call each other.
+//!
+//! A method is known by a key of 64 bits, the list index of its file above the 32 bits of its token. A file alone has
+//! index 0, so one definition and one piece of code serve both.
 
 ghost use Rattle.std.specs.Prelude.{◌≡◌, ◌<◌};
 ghost use Rattle.std.specs.Option.{option_copied};

@@ -1,4 +1,7 @@
 //! The forms of unit files.
+//!
+//! A unit is written and kept in one form: in the third where clauses were added to it, and else in the second. So one
+//! unit has one key. The first form is read as before, under the limits of today, and the code does not write it.
 
 ghost use Rattle.std.specs.Prelude.{◌≡◌, Some, None, if◌then◌else◌};
 ghost use Rattle.unit_form.specs.Forms.{form_numbered, is_form_number};

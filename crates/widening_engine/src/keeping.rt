@@ -1,4 +1,9 @@
 //! The rounds, and where they settle. What is kept from one to the next spares most of the work.
+//!
+//! The graph is handed to the rounds as data, beside the code of a `FlowState`, whose blocks and edges are words of
+//! contracts alone. How much work rounds are is said by any test that tells whether states are equal. The rounds join
+//! from the left what flows into a block, and nothing where nothing does: no law says that joining an unreachable state
+//! changes nothing.
 
 ghost use Rattle.std.specs.Prelude.{◌≡◌, ◌⊎◌, ◌<◌, ◌≤◌, ◌+◌, ◌*◌, ◌^◌, ◌∷◌, [], ◌↔◌, true, map, length, IfOk, IsTrue, OnOk};
 ghost use Rattle.widening_engine.specs.Flows.{AreEdges, AreNumbered, FitBlocks, IsGraphOf, flow_of};

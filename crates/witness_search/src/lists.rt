@@ -1,4 +1,6 @@
 //! The argument lists of a method, one after another.
+//!
+//! The lists are counted, and never held; their model is the list of all that are left. One machine serves all runs.
 
 ghost use Rattle.std.specs.Prelude.{◌≡◌, ◌≤◌, IfOk, IfSome, OnOk, drop, length, option_map, slice_get};
 ghost use Rattle.cil_model.specs.Limits.{MAX_VARIABLES};

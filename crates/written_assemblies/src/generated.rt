@@ -1,4 +1,7 @@
 //! Assemblies that are generated to be written and read.
+//!
+//! The file that `gen` reports is a function of its words (`generated_file`): a clause that asks for some plan would
+//! have none to name where memory runs out before the plan is made.
 
 ghost use Rattle.std.specs.Prelude.{◌≡◌, ◌≤◌, None, IfOk, IsTrue};
 ghost use Rattle.asm_image.specs.Faults.{FirstBroken};
