@@ -9,15 +9,15 @@ use Rattle.answer_lines.proofs.LineLemmas.{line_count-append, none_in_byte}
 
 -- ---- what is left behind a prefix
 
-one_left : (b : ℕ) (text front : List ℕ) → b ∷ text ≡ front ++ 10 ∷ [] → EndsLine text
+one_left : (b : ℕ) (text prefix : List ℕ) → b ∷ text ≡ prefix ++ 10 ∷ [] → EndsLine text
 one_left b text [] is = let empty : text ≡ [] = cc in inl empty
-one_left b text (c ∷ front) is = let later : text ≡ front ++ 10 ∷ [] = cc in inr (front, later)
+one_left b text (c ∷ prefix) is = let later : text ≡ prefix ++ 10 ∷ [] = cc in inr (prefix, later)
 
 pub left_ends : (n : ℕ) (text : List ℕ) → EndsLine text → EndsLine (drop n text)
 left_ends zero text ends = ends
 left_ends (suc n) [] ends = inl refl
 left_ends (suc n) (b ∷ text) (inl empty) = absurd cc
-left_ends (suc n) (b ∷ text) (inr (front, is)) = left_ends n text (one_left b text front is)
+left_ends (suc n) (b ∷ text) (inr (prefix, is)) = left_ends n text (one_left b text prefix is)
 
 -- ---- up to the first line feed
 
@@ -42,9 +42,9 @@ found_is_line text i found =
 -- ---- without a line feed
 
 -- A text of whole lines is empty, or has a line feed.
-ends_at : (front : List ℕ) → (i : ℕ) × (i < length (front ++ 10 ∷ [])) × ((get_or (front ++ 10 ∷ []) i 0 == 10) ≡ true)
+ends_at : (prefix : List ℕ) → (i : ℕ) × (i < length (prefix ++ 10 ∷ [])) × ((get_or (prefix ++ 10 ∷ []) i 0 == 10) ≡ true)
 ends_at [] = (0, omega arith, refl)
-ends_at (b ∷ front) = let later = ends_at front in (suc later.0, omega (arith, later.1), later.2)
+ends_at (b ∷ prefix) = let later = ends_at prefix in (suc later.0, omega (arith, later.1), later.2)
 
 none_found : (text : List ℕ) → position (λ byte. byte == 10) text ≡ None → (k : ℕ) → k < length text → (get_or text k 0 == 10) ≡ false
 none_found text none k below =
@@ -56,8 +56,8 @@ none_found text none k below =
 
 pub whole_has_feed : (text : List ℕ) → EndsLine text → 0 < length text → position (λ byte. byte == 10) text ≡ None → ⊥
 whole_has_feed text (inl empty) more none = omega (arith, ap length empty, more)
-whole_has_feed text (inr (front, is)) more none =
-    let at = ends_at front in
+whole_has_feed text (inr (prefix, is)) more none =
+    let at = ends_at prefix in
     let below : at.0 < length text = rw is at.1 in
     let byte : (get_or text at.0 0 == 10) ≡ true = rw is at.2 in
     true≢false (sym byte ∙ none_found text none at.0 below)

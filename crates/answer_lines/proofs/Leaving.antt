@@ -1,8 +1,8 @@
 -- What a call of the program leaves, from what its answer gave.
 use Rattle.std.proofs.Common.{◌≡◌, ◌≢◌, ℕ, List, [], ◌∷◌, Any, Option, Result, Ok, Err, refl, sym, ap, ◌∙◌, arith, inl, inr, ◌⊎◌}
 use Rattle.std.specs.Prelude.{IfOk}
-use Rattle.cc_base.specs.Sink.{appended, counted, AppendsFront}
-use Rattle.cc_base.proofs.SinkLemmas.{appended-appended, appended-nil, IsFront-nil, AppendsFront-all, AppendsFront-front}
+use Rattle.cc_base.specs.Sink.{appended, counted, AppendsPrefix}
+use Rattle.cc_base.proofs.SinkLemmas.{appended-appended, appended-nil, IsPrefix-nil, AppendsPrefix-all, AppendsPrefix-prefix}
 use Rattle.answer_lines.specs.Answers.{Answer, unread_line, UNWRITTEN_LINE, NO_MEMORY_LINE}
 use Rattle.answer_lines.specs.LineCounts.{line_count}
 use Rattle.answer_lines.specs.Outcome.{GivesOrFails, GivesOrUnread, IsUnreplaced, Leaves, Interrupted, last_line, status_of}
@@ -21,23 +21,23 @@ pub record IsUninterrupted (status : ℕ) : Type 0 where
 -- ---- what was written
 
 -- Nothing, where the answer writes nothing, is a prefix of what is expected.
-unwritten_front : (out : Change) (text : List ℕ) → AppendsFront out.old out.new [] → AppendsFront out.old out.new text
-unwritten_front out text h = AppendsFront-front out.old out.new [] text h (IsFront-nil text)
+unwritten_prefix : (out : Change) (text : List ℕ) → AppendsPrefix out.old out.new [] → AppendsPrefix out.old out.new text
+unwritten_prefix out text h = AppendsPrefix-prefix out.old out.new [] text h (IsPrefix-nil text)
 
 -- What was written is a prefix of what is expected, whatever came of it.
-pub front_given : (x : Answer) (names : List (List ℕ)) (failed unreplaced : Type 0) (r : Result ℕ Interrupt) (out err : Change)
-    → GivesOrFails x names failed unreplaced r out err → AppendsFront out.old out.new x.out
-front_given x names failed unreplaced (Ok status) out err (inl (inl g)) = AppendsFront-all out.old out.new x.out g.out_all
-front_given x names failed unreplaced (Ok status) out err (inl (inr (f, (k, name, lt, at, g)))) =
-    unwritten_front out x.out (AppendsFront-all out.old out.new [] g.out_all)
-front_given x names failed unreplaced (Err i) out err (inl (inl g)) = g.out_front
-front_given x names failed unreplaced (Err i) out err (inl (inr (f, (k, name, lt, at, g)))) = unwritten_front out x.out g.out_front
-front_given x names failed unreplaced r out err (inr (f, u)) = AppendsFront-all out.old out.new x.out u.out_all
+pub prefix_given : (x : Answer) (names : List (List ℕ)) (failed unreplaced : Type 0) (r : Result ℕ Interrupt) (out err : Change)
+    → GivesOrFails x names failed unreplaced r out err → AppendsPrefix out.old out.new x.out
+prefix_given x names failed unreplaced (Ok status) out err (inl (inl g)) = AppendsPrefix-all out.old out.new x.out g.out_all
+prefix_given x names failed unreplaced (Ok status) out err (inl (inr (f, (k, name, lt, at, g)))) =
+    unwritten_prefix out x.out (AppendsPrefix-all out.old out.new [] g.out_all)
+prefix_given x names failed unreplaced (Err i) out err (inl (inl g)) = g.out_prefix
+prefix_given x names failed unreplaced (Err i) out err (inl (inr (f, (k, name, lt, at, g)))) = unwritten_prefix out x.out g.out_prefix
+prefix_given x names failed unreplaced r out err (inr (f, u)) = AppendsPrefix-all out.old out.new x.out u.out_all
 
 -- ---- an answer that came
 
--- A front of nothing changes nothing.
-same_behind : (mid new : Option (List ℕ)) → AppendsFront mid new [] → new ≡ mid
+-- A prefix of nothing changes nothing.
+same_behind : (mid new : Option (List ℕ)) → AppendsPrefix mid new [] → new ≡ mid
 same_behind mid new ([], (rest, whole), is) = is ∙ appended-nil mid
 same_behind mid new (c ∷ cs, (rest, whole), is) = absurd cc
 
@@ -47,7 +47,7 @@ unfolding line_count
 leaves_answer x names failed status out old mid new p0 p1 p2 g0 g1 g2 same kept plain (inl g) = record {
   answered = λ a b c. (g.status, g.out_all, same ∙ g.err_all);
   lines = λ a b c. (g.out_puts, kept ∙ g.err_puts);
-  front = AppendsFront-all out.old out.new x.out g.out_all;
+  prefix = AppendsPrefix-all out.old out.new x.out g.out_all;
   unread = λ e. absurd (plain.read (sym g.status ∙ e));
   unread_out = λ e. absurd (plain.read (sym g.status ∙ e));
   unread_lines = λ e. absurd (plain.read (sym g.status ∙ e));
@@ -57,7 +57,7 @@ leaves_answer x names failed status out old mid new p0 p1 p2 g0 g1 g2 same kept 
 leaves_answer x names failed status out old mid new p0 p1 p2 g0 g1 g2 same kept plain (inr (f, (k, name, lt, at, g))) = record {
   answered = λ a b c. absurd (a g.status);
   lines = λ a b c. absurd (a g.status);
-  front = unwritten_front out x.out (AppendsFront-all out.old out.new [] g.out_all);
+  prefix = unwritten_prefix out x.out (AppendsPrefix-all out.old out.new [] g.out_all);
   unread = λ e. (f, (k, name, lt, at, same ∙ g.err_all));
   unread_out = λ e. g.out_all;
   unread_lines = λ e. (g.out_puts, kept ∙ g.err_puts ∙ ap (λ (n : ℕ). counted n p0) (unread_is_line name));
@@ -67,20 +67,20 @@ leaves_answer x names failed status out old mid new p0 p1 p2 g0 g1 g2 same kept 
 
 -- ---- an interruption
 
--- A front of a text, and after it a prefix of a line.
-two_fronts : (old mid new : Option (List ℕ)) (text line : List ℕ) (p0 p2 : Option ℕ) (before after : ℕ) → AppendsFront old mid text → AppendsFront mid new line → Interrupted line text (change old new p0 p2 before after)
-two_fronts old mid new text line p0 p2 before after (first, infirst, m) (second, insecond, n) =
+-- A prefix of a text, and after it a prefix of a line.
+two_prefixes : (old mid new : Option (List ℕ)) (text line : List ℕ) (p0 p2 : Option ℕ) (before after : ℕ) → AppendsPrefix old mid text → AppendsPrefix mid new line → Interrupted line text (change old new p0 p2 before after)
+two_prefixes old mid new text line p0 p2 before after (first, infirst, m) (second, insecond, n) =
     (first, second, infirst, insecond, n ∙ ap (λ (o : Option (List ℕ)). appended o second) m ∙ appended-appended old first second)
 
 -- The ways in which a call that was interrupted can have begun.
 begun : (x : Answer) (names : List (List ℕ)) (failed unreplaced : Type 0) (i : Interrupt) (out : Change) (old mid new : Option (List ℕ)) (p0 p1 p2 : Option ℕ) (g0 g1 g2 : ℕ) (line : List ℕ)
-    → GivesOrFails x names failed unreplaced (Err i) out (change old mid p0 p1 g0 g1) → AppendsFront mid new line
+    → GivesOrFails x names failed unreplaced (Err i) out (change old mid p0 p1 g0 g1) → AppendsPrefix mid new line
     → Interrupted line x.err (change old new p0 p2 g0 g2) ⊎ (failed × Any (λ name. Interrupted line (unread_line name) (change old new p0 p2 g0 g2)) names)
-begun x names failed unreplaced i out old mid new p0 p1 p2 g0 g1 g2 line (inl (inl g)) tried = inl (two_fronts old mid new x.err line p0 p2 g0 g2 g.err_front tried)
+begun x names failed unreplaced i out old mid new p0 p1 p2 g0 g1 g2 line (inl (inl g)) tried = inl (two_prefixes old mid new x.err line p0 p2 g0 g2 g.err_prefix tried)
 begun x names failed unreplaced i out old mid new p0 p1 p2 g0 g1 g2 line (inl (inr (f, (k, name, lt, at, g)))) tried =
-    inr (f, (k, name, lt, at, two_fronts old mid new (unread_line name) line p0 p2 g0 g2 g.err_front tried))
+    inr (f, (k, name, lt, at, two_prefixes old mid new (unread_line name) line p0 p2 g0 g2 g.err_prefix tried))
 begun x names failed unreplaced i out old mid new p0 p1 p2 g0 g1 g2 line (inr (f, u)) tried =
-    inl (two_fronts old mid new x.err line p0 p2 g0 g2 (AppendsFront-all old mid x.err u.err_all) tried)
+    inl (two_prefixes old mid new x.err line p0 p2 g0 g2 (AppendsPrefix-all old mid x.err u.err_all) tried)
 
 -- ---- the end of a call
 
@@ -90,7 +90,7 @@ never_interrupted r status answered is = cc
 
 -- The status and the last line end the call.
 pub leaves : (x : Answer) (names : List (List ℕ)) (failed unreplaced : Type 0) (r : Result ℕ Interrupt) (out : Change) (old mid new : Option (List ℕ)) (p0 p1 p2 : Option ℕ) (g0 g1 g2 : ℕ)
-    → IsUninterrupted x.status → GivesOrFails x names failed unreplaced r out (change old mid p0 p1 g0 g1) → AppendsFront mid new (last_line r)
+    → IsUninterrupted x.status → GivesOrFails x names failed unreplaced r out (change old mid p0 p1 g0 g1) → AppendsPrefix mid new (last_line r)
     → IfOk r (λ _. p2 ≡ p1) → Leaves x names failed (status_of r) out (change old new p0 p2 g0 g2)
 leaves x names failed unreplaced (Ok status) out old mid new p0 p1 p2 g0 g1 g2 plain (inl gives) tried kept =
     leaves_answer x names failed status out old mid new p0 p1 p2 g0 g1 g2 (same_behind mid new tried) kept plain gives
@@ -98,7 +98,7 @@ leaves x names failed unreplaced (Ok status) out old mid new p0 p1 p2 g0 g1 g2 p
 leaves x names failed unreplaced (Err interrupts.CannotWrite) out old mid new p0 p1 p2 g0 g1 g2 plain gives tried kept = record {
   answered = λ a b c. absurd (b refl);
   lines = λ a b c. absurd (b refl);
-  front = front_given x names failed unreplaced (Err interrupts.CannotWrite) out (change old mid p0 p1 g0 g1) gives;
+  prefix = prefix_given x names failed unreplaced (Err interrupts.CannotWrite) out (change old mid p0 p1 g0 g1) gives;
   unread = λ e. absurd (omega (arith, e));
   unread_out = λ e. absurd (omega (arith, e));
   unread_lines = λ e. absurd (omega (arith, e));
@@ -108,7 +108,7 @@ leaves x names failed unreplaced (Err interrupts.CannotWrite) out old mid new p0
 leaves x names failed unreplaced (Err interrupts.NoMemory) out old mid new p0 p1 p2 g0 g1 g2 plain gives tried kept = record {
   answered = λ a b c. absurd (c refl);
   lines = λ a b c. absurd (c refl);
-  front = front_given x names failed unreplaced (Err interrupts.NoMemory) out (change old mid p0 p1 g0 g1) gives;
+  prefix = prefix_given x names failed unreplaced (Err interrupts.NoMemory) out (change old mid p0 p1 g0 g1) gives;
   unread = λ e. absurd (omega (arith, e));
   unread_out = λ e. absurd (omega (arith, e));
   unread_lines = λ e. absurd (omega (arith, e));

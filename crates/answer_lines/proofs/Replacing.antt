@@ -3,7 +3,7 @@ use Rattle.std.proofs.Common.{◌≡◌, ℕ, List, [], ◌++◌, Option, Result
 use Rattle.cc_base.specs.Counts.{Rose}
 use Rattle.cc_base.specs.Sink.{appended, counted}
 use Rattle.cc_base.proofs.CountLemmas.{Kept-Rose, Kept-refl, Kept-trans}
-use Rattle.cc_base.proofs.SinkLemmas.{AppendsFront-after, AppendsFront-all, AppendsFront-more, AppendsFront-none, appended-appended}
+use Rattle.cc_base.proofs.SinkLemmas.{AppendsPrefix-after, AppendsPrefix-all, AppendsPrefix-more, AppendsPrefix-none, appended-appended}
 use Rattle.answer_lines.specs.Answers.{Answer}
 use Rattle.answer_lines.specs.LineCounts.{line_count}
 use Rattle.answer_lines.specs.Outcome.{Gives, GivesOrFails, IsUnreplaced, after_line}
@@ -23,8 +23,8 @@ gives_whole_no_memory x status out err g = record {
   err_all = tt;
   out_puts = tt;
   err_puts = tt;
-  out_front = AppendsFront-all out.old out.new x.out g.out_all;
-  err_front = AppendsFront-all err.old err.new x.err g.err_all;
+  out_prefix = AppendsPrefix-all out.old out.new x.out g.out_all;
+  err_prefix = AppendsPrefix-all err.old err.new x.err g.err_all;
   cause = λ is. absurd cc;
   out_kept = g.out_kept;
   err_kept = g.err_kept;
@@ -52,8 +52,8 @@ gives_line_stop {X} line x i o p f err w = record {
   err_all = tt;
   out_puts = tt;
   err_puts = tt;
-  out_front = AppendsFront-none o o x.out refl;
-  err_front = AppendsFront-more err.old err.new line x.err w.front;
+  out_prefix = AppendsPrefix-none o o x.out refl;
+  err_prefix = AppendsPrefix-more err.old err.new line x.err w.prefix;
   cause = λ is. inr (w.cause (retold {X = ℕ} {Y = X} i interrupts.CannotWrite is));
   out_kept = Kept-refl f;
   err_kept = w.kept;
@@ -73,8 +73,8 @@ module _ {X : Type 0} (one : X) (line : List ℕ) (x : Answer) (out : Change) (e
     err_all = g.err_all ∙ ap (λ (e : Option (List ℕ)). appended e x.err) w.whole ∙ appended-appended e0 line x.err;
     out_puts = g.out_puts;
     err_puts = g.err_puts ∙ ap (λ (p : Option ℕ). counted (line_count x.err) p) w.puts ∙ counted-lines line x.err p0;
-    out_front = tt;
-    err_front = tt;
+    out_prefix = tt;
+    err_prefix = tt;
     cause = λ never. absurd cc;
     out_kept = g.out_kept;
     err_kept = Kept-trans f0 f1 f2 w.kept g.err_kept;
@@ -85,8 +85,8 @@ module _ {X : Type 0} (one : X) (line : List ℕ) (x : Answer) (out : Change) (e
     err_all = tt;
     out_puts = tt;
     err_puts = tt;
-    out_front = g.out_front;
-    err_front = AppendsFront-after e0 e1 e2 line x.err w.whole g.err_front;
+    out_prefix = g.out_prefix;
+    err_prefix = AppendsPrefix-after e0 e1 e2 line x.err w.whole g.err_prefix;
     cause = λ is. later_cause (g.cause is);
     out_kept = g.out_kept;
     err_kept = Kept-trans f0 f1 f2 w.kept g.err_kept;

@@ -50,26 +50,26 @@ obligation_is_line at kind proved none = line_of_text (obligation_said at kind p
 -- ---- the summary
 
 -- Up to its last number.
-unfoldable pub summary_front : Counts → List ℕ
-summary_front n =
+unfoldable pub summary_prefix : Counts → List ℕ
+summary_prefix n =
     codes "summary: " ++ decimal n.methods ++ codes " methods, " ++ decimal n.proved ++ codes " proved, "
     ++ decimal n.unproved ++ codes " unproved, " ++ decimal n.skipped ++ codes " not analysed, "
     ++ decimal n.obligations ++ codes " obligations, " ++ decimal n.proved_obligations
 
 unfoldable pub summary_said : Counts → List ℕ
-unfolding summary_front
-summary_said n = summary_front n ++ codes " proved"
+unfolding summary_prefix
+summary_said n = summary_prefix n ++ codes " proved"
 
 pub summary_ends : (n : Counts) → summary_said n ++ codes "\n" ≡ summary_line n
 unfolding summary_said
-summary_ends n = append_assoc (summary_front n) (codes " proved") (codes "\n")
+summary_ends n = append_assoc (summary_prefix n) (codes " proved") (codes "\n")
 
 -- A number, and what it counts.
 number_behind : (before : List ℕ) (n : ℕ) (what : List ℕ) → line_count before ≡ 0 → line_count what ≡ 0 → line_count (before ++ decimal n ++ what) ≡ 0
 number_behind before n what none other = none_behind (before ++ decimal n) what (none_behind before (decimal n) none (none_in_number n)) other
 
 pub none_in_summary : (n : Counts) → line_count (summary_said n) ≡ 0
-unfolding line_count summary_said summary_front
+unfolding line_count summary_said summary_prefix
 none_in_summary n =
     let methods = codes "summary: " ++ decimal n.methods ++ codes " methods, " in
     let proved = methods ++ decimal n.proved ++ codes " proved, " in

@@ -56,16 +56,16 @@ first_of (c ∷ cs) =
       | inr other ↦ with_first c cs other (first_of cs)
     ]
 
--- The front of a text of lines that ends with a line is its first line and a prefix of the others that does so too.
+-- The prefix of a text of lines that ends with a line is its first line and a prefix of the others that does so too.
 behind_first : (text more : List ℕ) (before rest : List ℕ) → IsOneLine text → as_line text ++ more ≡ (before ++ codes "\n") ++ rest
-    → (front : List ℕ) × EndsLine front × (more ≡ front ++ rest)
+    → (prefix : List ℕ) × EndsLine prefix × (more ≡ prefix ++ rest)
 unfolding FirstOf
 behind_first text more before rest one e = by_first (first_of before)
   where
     whole : text ++ 10 ∷ more ≡ before ++ 10 ∷ rest
     whole = sym (append_assoc text (10 ∷ []) more) ∙ e ∙ append_assoc before (10 ∷ []) rest
 
-    by_first : FirstOf before → (front : List ℕ) × EndsLine front × (more ≡ front ++ rest)
+    by_first : FirstOf before → (prefix : List ℕ) × EndsLine prefix × (more ≡ prefix ++ rest)
     by_first (inl line) = ([], inl refl, (same_first text before more rest one line whole).1)
     by_first (inr (line, left, is_line, is)) =
         let later : text ++ 10 ∷ more ≡ line ++ 10 ∷ (left ++ 10 ∷ rest) =

@@ -6,9 +6,9 @@ use Rattle.std.proofs.Math.Seq.{drop-cons}
 use Rattle.std.proofs.lemmas.Grind.{common_steps}
 use Rattle.std.proofs.lemmas.List.Concat.{flat_map-append}
 use Rattle.cc_base.specs.Counts.{Kept}
-use Rattle.cc_base.specs.Sink.{appended, counted, IsFront}
+use Rattle.cc_base.specs.Sink.{appended, counted, IsPrefix}
 use Rattle.cc_base.proofs.CountLemmas.{Kept-refl, Kept-trans, Kept-Rose}
-use Rattle.cc_base.proofs.SinkLemmas.{appended-appended, appended-nil, AppendsFront-none, AppendsFront-after, AppendsFront-front}
+use Rattle.cc_base.proofs.SinkLemmas.{appended-appended, appended-nil, AppendsPrefix-none, AppendsPrefix-after, AppendsPrefix-prefix}
 use Rattle.answer_lines.specs.Answers.{Answer, error_answer, output_answer}
 use Rattle.answer_lines.specs.LineCounts.{line_count}
 use Rattle.answer_lines.specs.Outcome.{Gives}
@@ -31,20 +31,20 @@ retold interrupts.NoMemory interrupts.CannotWrite h = absurd cc
 
 -- A text that is interrupted after another one is a prefix of all that begins with both.
 pub writes_stop : {X Y : Type 0} (e : Interrupt) (old mid new : Option (List ℕ)) (p0 p1 p2 : Option ℕ) (f0 f1 f2 : ℕ) (before text whole : List ℕ)
-    → mid ≡ appended old before → Kept f0 f1 → Writes {X = X} (Err e) (change mid new p1 p2 f1 f2) text → IsFront (before ++ text) whole
+    → mid ≡ appended old before → Kept f0 f1 → Writes {X = X} (Err e) (change mid new p1 p2 f1 f2) text → IsPrefix (before ++ text) whole
     → Writes {X = Y} (Err e) (change old new p0 p2 f0 f2) whole
 writes_stop {X} {Y} e old mid new p0 p1 p2 f0 f1 f2 before text whole so_far kept w inside = record {
   whole = tt;
   puts = tt;
-  front = AppendsFront-front old new (before ++ text) whole (AppendsFront-after old mid new before text so_far w.front) inside;
+  prefix = AppendsPrefix-prefix old new (before ++ text) whole (AppendsPrefix-after old mid new before text so_far w.prefix) inside;
   cause = λ is. Kept-Rose f0 f1 f2 kept (w.cause (retold {X = Y} {Y = X} e interrupts.CannotWrite is));
   kept = Kept-trans f0 f1 f2 kept w.kept;
 }
 
 -- The texts of the first items and of the next are a prefix of the texts of all.
-texts_front : {X : Type 0} (text : X → List ℕ) (items : List X) (k : ℕ) (item : X) → k < length items → item ≡ get_or items k item
-    → IsFront (flat_map text (take k items) ++ text item) (flat_map text items)
-texts_front {X} text items k item lt at =
+texts_prefix : {X : Type 0} (text : X → List ℕ) (items : List X) (k : ℕ) (item : X) → k < length items → item ≡ get_or items k item
+    → IsPrefix (flat_map text (take k items) ++ text item) (flat_map text items)
+texts_prefix {X} text items k item lt at =
     let split : drop k items ≡ item ∷ drop (suc k) items = drop-cons items k item lt ∙ ap (λ (x : X). x ∷ drop (suc k) items) (sym at) in
     let whole : items ≡ take k items ++ (item ∷ drop (suc k) items) = sym (take-append-drop k items) ∙ ap (λ (r : List X). take k items ++ r) split in
     let texts : flat_map text items ≡ flat_map text (take k items) ++ (text item ++ flat_map text (drop (suc k) items)) =
@@ -75,11 +75,11 @@ pub texts_stop : {X A : Type 0} (text : X → List ℕ) (items : List X) (k : �
     → k < length items → item ≡ get_or items k item → mid ≡ appended old (flat_map text (take k items)) → Kept f0 f1
     → Writes {X = A} (Err e) (change mid new p1 p2 f1 f2) (text item) → Writes {X = A} (Err e) (change old new p0 p2 f0 f2) (flat_map text items)
 texts_stop {X} {A} text items k item e old mid new p0 p1 p2 f0 f1 f2 lt at so_far kept w =
-    writes_stop {X = A} {Y = A} e old mid new p0 p1 p2 f0 f1 f2 (flat_map text (take k items)) (text item) (flat_map text items) so_far kept w (texts_front text items k item lt at)
+    writes_stop {X = A} {Y = A} e old mid new p0 p1 p2 f0 f1 f2 (flat_map text (take k items)) (text item) (flat_map text items) so_far kept w (texts_prefix text items k item lt at)
 
 -- A text that was written whole, whatever is answered then.
 pub written_whole : {X Y : Type 0} (x : X) (y : Y) (sink : Change) (text whole : List ℕ) → text ≡ whole → Writes (Ok x) sink text → Writes (Ok y) sink whole
-written_whole x y sink text whole same w = record { whole = rw (sym same) w.whole; puts = rw (sym same) w.puts; front = tt; cause = λ is. absurd cc; kept = w.kept }
+written_whole x y sink text whole same w = record { whole = rw (sym same) w.whole; puts = rw (sym same) w.puts; prefix = tt; cause = λ is. absurd cc; kept = w.kept }
 
 -- ---- answers
 
@@ -93,8 +93,8 @@ gives_error status line (Ok given) o p f err is w = record {
   err_all = w.whole;
   out_puts = refl;
   err_puts = w.puts;
-  out_front = tt;
-  err_front = tt;
+  out_prefix = tt;
+  err_prefix = tt;
   cause = λ e. absurd cc;
   out_kept = Kept-refl f;
   err_kept = w.kept;
@@ -105,8 +105,8 @@ gives_error status line (Err e) o p f err is w = record {
   err_all = tt;
   out_puts = tt;
   err_puts = tt;
-  out_front = AppendsFront-none o o [] refl;
-  err_front = w.front;
+  out_prefix = AppendsPrefix-none o o [] refl;
+  err_prefix = w.prefix;
   cause = λ e. inr (w.cause e);
   out_kept = Kept-refl f;
   err_kept = w.kept;
@@ -121,8 +121,8 @@ gives_output_stop {X} status text i out e p g w = record {
   err_all = tt;
   out_puts = tt;
   err_puts = tt;
-  out_front = w.front;
-  err_front = AppendsFront-none e e [] refl;
+  out_prefix = w.prefix;
+  err_prefix = AppendsPrefix-none e e [] refl;
   cause = λ is. inl (w.cause (retold {X = ℕ} {Y = X} i interrupts.CannotWrite is));
   out_kept = w.kept;
   err_kept = Kept-refl g;
@@ -138,8 +138,8 @@ gives_output status text (Ok given) out e p g is w = record {
   err_all = sym (appended-nil e);
   out_puts = w.puts;
   err_puts = refl;
-  out_front = tt;
-  err_front = tt;
+  out_prefix = tt;
+  err_prefix = tt;
   cause = λ e. absurd cc;
   out_kept = w.kept;
   err_kept = Kept-refl g;
@@ -155,8 +155,8 @@ gives_no_memory x out err out_same err_same out_kept err_kept = record {
   err_all = tt;
   out_puts = tt;
   err_puts = tt;
-  out_front = AppendsFront-none out.old out.new x.out out_same;
-  err_front = AppendsFront-none err.old err.new x.err err_same;
+  out_prefix = AppendsPrefix-none out.old out.new x.out out_same;
+  err_prefix = AppendsPrefix-none err.old err.new x.err err_same;
   cause = λ is. absurd cc;
   out_kept = out_kept;
   err_kept = err_kept;

@@ -1,7 +1,7 @@
 -- What a call of the program leaves, however it ends.
 use Rattle.std.specs.Prelude.{◌≡◌, ◌≢◌, ◌⊎◌, ℕ, List, [], ◌++◌, Result, Ok, Err, Any, IfOk, OnErr, IsErrOf}
 use Rattle.cc_base.specs.Counts.{Rose, Kept}
-use Rattle.cc_base.specs.Sink.{appended, counted, AppendsFront, IsFront}
+use Rattle.cc_base.specs.Sink.{appended, counted, AppendsPrefix, IsPrefix}
 use Rattle.answer_lines.specs.Answers.{Answer, error_answer, unread_line, UNWRITTEN_LINE, NO_MEMORY_LINE}
 use Rattle.answer_lines.specs.Writing.{Change, PutsLines}
 use Rattle.answer_lines.specs.declared.interrupt.Interrupt.{Interrupt}
@@ -23,8 +23,8 @@ pub record Gives (answer : Answer) (result : Result ℕ Interrupt) (out err : Ch
   pub err_all : IfOk result (λ _. WritesAll err answer.err)
   pub out_puts : IfOk result (λ _. PutsLines out answer.out)
   pub err_puts : IfOk result (λ _. PutsLines err answer.err)
-  pub out_front : OnErr result (AppendsFront out.old out.new answer.out)
-  pub err_front : OnErr result (AppendsFront err.old err.new answer.err)
+  pub out_prefix : OnErr result (AppendsPrefix out.old out.new answer.out)
+  pub err_prefix : OnErr result (AppendsPrefix err.old err.new answer.err)
   pub cause : IsErrOf result interrupts.CannotWrite → Rose out.faults_before out.faults_after ⊎ Rose err.faults_before err.faults_after
   pub out_kept : Kept out.faults_before out.faults_after
   pub err_kept : Kept err.faults_before err.faults_after
@@ -68,7 +68,7 @@ last_line (Err interrupts.NoMemory) = NO_MEMORY_LINE
 -- The sink of errors has a prefix of one text, and after it a prefix of the line that tells the status.
 abbrev pub Interrupted : List ℕ → List ℕ → Change → Type 0
 Interrupted line text err =
-    (first second : List ℕ) × IsFront first text × IsFront second line × (err.new ≡ appended err.old (first ++ second))
+    (first second : List ℕ) × IsPrefix first text × IsPrefix second line × (err.new ≡ appended err.old (first ++ second))
 
 -- What the program leaves: `expected` is the answer to its words, `names` has the names of their files, and
 -- `failed` says that a device refused a read in this call.
@@ -79,7 +79,7 @@ pub record Leaves (expected : Answer) (names : List (List ℕ)) (failed : Type 0
   -- Then each sink was put as often as its text has lines.
   pub lines : status ≢ 4 → status ≢ 6 → status ≢ 7 → PutsLines out expected.out × PutsLines err expected.err
   -- What was written is a prefix of what is expected, whatever happens.
-  pub front : AppendsFront out.old out.new expected.out
+  pub prefix : AppendsPrefix out.old out.new expected.out
   -- Status 4 comes with the line of one of the files alone, in one put, and nothing on the sink of output.
   pub unread : status ≡ 4 → failed × Any (λ name. WritesAll err (unread_line name)) names
   pub unread_out : status ≡ 4 → WritesAll out []

@@ -4,7 +4,7 @@ use Rattle.std.specs.List.{flat_map}
 use Rattle.std.specs.declared.alloc.Global.{Global}
 use Rattle.std.specs.declared.vec.Vec.{Vec}
 use Rattle.cc_base.specs.Counts.{Rose, Kept}
-use Rattle.cc_base.specs.Sink.{appended, counted, AppendsFront}
+use Rattle.cc_base.specs.Sink.{appended, counted, AppendsPrefix}
 use Rattle.cc_base.specs.declared.files.ReplaceRefusal.{ReplaceRefusal}
 use Rattle.cc_base.specs.declared.files.ReplaceRefusal.TheVariants as unreplaced
 use Rattle.cc_base.specs.declared.sink.PutRefusal.{PutRefusal}
@@ -53,7 +53,7 @@ PutsLines sink text = sink.puts_after ≡ counted (line_count text) sink.puts_be
 pub record Writes {X : Type 0} (result : Result X Interrupt) (sink : Change) (text : List ℕ) : Type 0 where
   pub whole : OnOk result (sink.new ≡ appended sink.old text)
   pub puts : OnOk result (PutsLines sink text)
-  pub front : OnErr result (AppendsFront sink.old sink.new text)
+  pub prefix : OnErr result (AppendsPrefix sink.old sink.new text)
   pub cause : IsErrOf result interrupts.CannotWrite → Rose sink.faults_before sink.faults_after
   pub kept : Kept sink.faults_before sink.faults_after
 

@@ -105,7 +105,7 @@ pub mapped_more : {X Y Z : Type 0} (view : Z → Y) (make : X → Y) (made : Lis
     → place < length xs → x ≡ get_or xs place x → view z ≡ make x
     → map view (made ++ z ∷ []) ++ map make (drop (place + 1) xs) ≡ map view made ++ map make (drop place xs)
 mapped_more view make made xs place x z below is same =
-    ap (λ front. front ++ map make (drop (place + 1) xs)) (map-append view made (z ∷ []) ∙ ap (λ y. map view made ++ y ∷ []) same)
+    ap (λ prefix. prefix ++ map make (drop (place + 1) xs)) (map-append view made (z ∷ []) ∙ ap (λ y. map view made ++ y ∷ []) same)
     ∙ append_assoc (map view made) (make x ∷ []) (map make (drop (place + 1) xs))
     ∙ ap (λ y. map view made ++ (make y ∷ map make (drop (place + 1) xs))) is
     ∙ ap (λ rest. map view made ++ map make rest) (sym (drop_more xs place x below))

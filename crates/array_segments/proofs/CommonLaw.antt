@@ -78,7 +78,7 @@ take_short (suc n) (x ∷ xs) = let rest = take_short n xs in omega arith
 
 must_short : (there : Bool) (exprs : List Expr) (must : Expr) → length exprs ≤ 4 → length (if there then exprs else take 3 exprs ++ must ∷ []) ≤ 4
 must_short true exprs must few = few
-must_short false exprs must few = let front = take_short 3 exprs in let both = length-append (take 3 exprs) (must ∷ []) in omega arith
+must_short false exprs must few = let prefix = take_short 3 exprs in let both = length-append (take 3 exprs) (must ∷ []) in omega arith
 
 with_must_short : (must : Option Expr) (exprs : List Expr) → length exprs ≤ 4 → length (with_must must exprs) ≤ 4
 with_must_short None exprs few = few

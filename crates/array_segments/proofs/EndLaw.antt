@@ -45,7 +45,7 @@ last_limited hull lists counted = let s = counted.some in last_times hull (lengt
 
 splice_later : (xs : List (List Expr)) (from to : ℕ) (ys : List (List Expr)) (i k : ℕ) → from ≤ length xs → k ≡ from + (length ys + i) → get_or (splice xs from to ys) k [] ≡ get_or xs (to + i) []
 splice_later xs from to ys i k within is =
-    let front = length-take from xs in
+    let prefix = length-take from xs in
     let e : k ≡ length (take from xs) + (length ys + i) = omega arith in
     ap (λ n. get_or (splice xs from to ys) n []) e
     ∙ get_or-append-add (take from xs) (ys ++ drop to xs) (length ys + i) []

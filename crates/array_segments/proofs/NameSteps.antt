@@ -48,15 +48,15 @@ segment_at view bounds contents marks place content mark bound below bounded mar
 pub map_push : {X Y : Type 0} (view : X → Y) (xs : List X) (x : X) → map view (xs ++ x ∷ []) ≡ map view xs ++ view x ∷ []
 map_push view xs x = map-append view xs (x ∷ [])
 
-option_front : {X : Type 0} (o : Option X) (xs : List X) → option_to_list o ++ xs ≡ cons_option o xs
-option_front None xs = refl
-option_front (Some x) xs = refl
+option_prefix : {X : Type 0} (o : Option X) (xs : List X) → option_to_list o ++ xs ≡ cons_option o xs
+option_prefix None xs = refl
+option_prefix (Some x) xs = refl
 
 pub named_more : {X Y : Type 0} (name : X → Option Y) (made : List Y) (xs : List X) (place : ℕ) (x : X) → place < length xs → x ≡ get_or xs place x →
     (made ++ option_to_list (name x)) ++ filter_map name (drop (place + 1) xs) ≡ made ++ filter_map name (drop place xs)
 named_more name made xs place x below is =
     append_assoc made (option_to_list (name x)) (filter_map name (drop (place + 1) xs))
-    ∙ ap (λ rest. made ++ rest) (option_front (name x) (filter_map name (drop (place + 1) xs)))
+    ∙ ap (λ rest. made ++ rest) (option_prefix (name x) (filter_map name (drop (place + 1) xs)))
     ∙ ap (λ rest. made ++ filter_map name rest) (ap (λ y. y ∷ drop (place + 1) xs) is ∙ sym (drop_more xs place x below))
 
 -- ---- segments made

@@ -67,6 +67,6 @@ rest_as_lists view n from xs = sym (drop-map view from (take n xs)) ∙ ap (drop
 pub copied_more : {X Y : Type 0} (view : X → Y) (again xs : List X) (place : ℕ) (x made : X) → place < length xs → x ≡ get_or xs place x → view made ≡ view x →
     map view (again ++ made ∷ []) ++ map view (drop (place + 1) xs) ≡ map view again ++ map view (drop place xs)
 copied_more view again xs place x made below is same =
-    ap (λ front. front ++ map view (drop (place + 1) xs)) (map-append view again (made ∷ []) ∙ ap (λ y. map view again ++ (y ∷ [])) same)
+    ap (λ prefix. prefix ++ map view (drop (place + 1) xs)) (map-append view again (made ∷ []) ∙ ap (λ y. map view again ++ (y ∷ [])) same)
     ∙ append_assoc (map view again) (view x ∷ []) (map view (drop (place + 1) xs))
     ∙ ap (λ rest. map view again ++ map view rest) (sym (drop_more xs place x below is))

@@ -11,7 +11,7 @@ use Rattle.array_segments.specs.Storing.{added, around, has_left, has_right, lef
 use Rattle.array_segments.proofs.LoadLaw.{AreSegments, bound_worth, from, from_low, outer_covers, place_of, to, to_above, to_high, to_within}
 use Rattle.array_segments.proofs.Shown.{ends_behind_worth, meets_worth, starts_before_worth}
 use Rattle.array_segments.proofs.Spans.{Spans-append, cut, cut_between, slice_by}
-use Rattle.array_segments.proofs.StoreLaw.{around_spans, changed_parts, left_part, right_part, stays_above, stays_below, weak_spans, with_content, zip_around, zip_back, zip_changed, zip_front}
+use Rattle.array_segments.proofs.StoreLaw.{around_spans, changed_parts, left_part, right_part, stays_above, stays_below, weak_spans, with_content, zip_around, zip_back, zip_changed, zip_prefix}
 
 drop_bound : (to : ℕ) (first : List Expr) (uppers : List (List Expr)) → 0 < to → to ≤ length uppers → drop to (first ∷ uppers) ≡ get_or (first ∷ uppers) to [] ∷ drop to uppers
 drop_bound zero first uppers some within = absurd (omega arith)
@@ -32,7 +32,7 @@ module _ {C : Type 0} (first : List Expr) (uppers : List (List Expr)) (contents 
       let ms : List Bool = around left right before_mark false behind_mark ++ drop high marks in
       let inner : List (List Expr) = new_bounds left right at in
       ap (λ n. zipped (drop 1 (take n (first ∷ uppers) ++ (inner ++ drop high (first ∷ uppers)))) (take low contents ++ cs) (take low marks ++ ms)) (add-one low)
-      ∙ zip_front low uppers (inner ++ drop high (first ∷ uppers)) contents cs marks ms (omega arith) are.bounded are.marked
+      ∙ zip_prefix low uppers (inner ++ drop high (first ∷ uppers)) contents cs marks ms (omega arith) are.bounded are.marked
       ∙ ap (λ rest. take low (zipped uppers contents marks) ++ zipped (inner ++ rest) cs ms) (drop_bound high first uppers (omega arith) (omega arith))
       ∙ ap (λ rest. take low (zipped uppers contents marks) ++ rest)
       (zip_around at outer value before_mark behind_mark (get_or (first ∷ uppers) high []) left right (drop high uppers) (drop high contents) (drop high marks)
@@ -73,8 +73,8 @@ module _ {C : Type 0} (contains : C → ℤ → Type 0) (hull : C → C → C) (
   worth_at = bound_worth contains number before first uppers contents marks are begins all
 
   -- The segments outside stay.
-  front : Spans contains number after (pos 0) (take low (zipped uppers contents marks)) (place low)
-  front = stays_below contains number before after index others (take low (zipped uppers contents marks)) (pos 0) (place low)
+  prefix : Spans contains number after (pos 0) (take low (zipped uppers contents marks)) (place low)
+  prefix = stays_below contains number before after index others (take low (zipped uppers contents marks)) (pos 0) (place low)
       (cut contains number before low (zipped uppers contents marks) (pos 0) (pos (length before)) all).1 starts_low
 
   back : Spans contains number after (place high) (drop high (zipped uppers contents marks)) (pos (length after))
@@ -85,7 +85,7 @@ module _ {C : Type 0} (contains : C → ℤ → Type 0) (hull : C → C → C) (
   around_middle : (middle : List (Segment C)) → Spans contains number after (place low) middle (place high) →
       Spans contains number after (pos 0) (take low (zipped uppers contents marks) ++ (middle ++ drop high (zipped uppers contents marks))) (pos (length after))
   around_middle middle spans =
-      Spans-append contains number after (take low (zipped uppers contents marks)) (middle ++ drop high (zipped uppers contents marks)) (pos 0) (place low) (pos (length after)) front
+      Spans-append contains number after (take low (zipped uppers contents marks)) (middle ++ drop high (zipped uppers contents marks)) (pos 0) (place low) (pos (length after)) prefix
       (Spans-append contains number after middle (drop high (zipped uppers contents marks)) (place low) (place high) (pos (length after)) spans back)
 
   pub replaced_holds : contains value (item after index) → Holds contains number after (replaced hull full gap made at value low high)

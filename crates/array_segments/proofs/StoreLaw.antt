@@ -10,14 +10,14 @@ use Rattle.array_segments.proofs.Spans.{Spans-append, rises, slice_by}
 
 -- ---- lists of segments of which a part is replaced
 
-pub zip_front : {C : Type 0} (place : ℕ) (uppers us : List (List Expr)) (contents cs : List C) (marks ms : List Bool) → place ≤ length contents → length uppers ≡ length contents → length marks ≡ length contents →
+pub zip_prefix : {C : Type 0} (place : ℕ) (uppers us : List (List Expr)) (contents cs : List C) (marks ms : List Bool) → place ≤ length contents → length uppers ≡ length contents → length marks ≡ length contents →
     zipped (take place uppers ++ us) (take place contents ++ cs) (take place marks ++ ms) ≡ take place (zipped uppers contents marks) ++ zipped us cs ms
-zip_front zero uppers us contents cs marks ms within bounded marked = refl
-zip_front (suc place) uppers us [] cs marks ms within bounded marked = absurd (omega arith)
-zip_front (suc place) [] us (content ∷ contents) cs marks ms within bounded marked = absurd (omega arith)
-zip_front (suc place) (upper ∷ uppers) us (content ∷ contents) cs [] ms within bounded marked = absurd (omega arith)
-zip_front (suc place) (upper ∷ uppers) us (content ∷ contents) cs (mark ∷ marks) ms within bounded marked =
-    ap (λ rest. record { content = content; may_be_empty = mark; upper = upper } ∷ rest) (zip_front place uppers us contents cs marks ms (omega arith) (omega arith) (omega arith))
+zip_prefix zero uppers us contents cs marks ms within bounded marked = refl
+zip_prefix (suc place) uppers us [] cs marks ms within bounded marked = absurd (omega arith)
+zip_prefix (suc place) [] us (content ∷ contents) cs marks ms within bounded marked = absurd (omega arith)
+zip_prefix (suc place) (upper ∷ uppers) us (content ∷ contents) cs [] ms within bounded marked = absurd (omega arith)
+zip_prefix (suc place) (upper ∷ uppers) us (content ∷ contents) cs (mark ∷ marks) ms within bounded marked =
+    ap (λ rest. record { content = content; may_be_empty = mark; upper = upper } ∷ rest) (zip_prefix place uppers us contents cs marks ms (omega arith) (omega arith) (omega arith))
 
 pub zip_back : {C : Type 0} (place : ℕ) (uppers : List (List Expr)) (contents : List C) (marks : List Bool) → length uppers ≡ length contents → length marks ≡ length contents →
     zipped (drop place uppers) (drop place contents) (drop place marks) ≡ drop place (zipped uppers contents marks)

@@ -44,7 +44,7 @@ pub splice_length : {X : Type 0} (xs : List X) (from to : ℕ) (ys : List X) →
 splice_length xs from to ys order within =
     let all = length-append (take from xs) (ys ++ drop to xs) in
     let back = length-append ys (drop to xs) in
-    let front = length-take from xs in
+    let prefix = length-take from xs in
     let rest = length-drop to xs in
     omega arith
 

@@ -7,7 +7,7 @@ use Rattle.metadata_tables.specs.Root.{stream, bytes_of, heap}
 some-is : {X : Type 0} (x y : X) → Some x ≡ Some y → x ≡ y
 some-is x y e = cc
 
-mapped-within : {F : Type 0} (g : F → List ℕ) (front : Option F) (item : List ℕ) (n : ℕ) → Some item ≡ option_map g front → ((f : F) → length (g f) ≤ n) → length item ≤ n
+mapped-within : {F : Type 0} (g : F → List ℕ) (prefix : Option F) (item : List ℕ) (n : ℕ) → Some item ≡ option_map g prefix → ((f : F) → length (g f) ≤ n) → length item ≤ n
 mapped-within {F} g None item n e within = absurd cc
 mapped-within {F} g (Some f) item n e within = let same = ap length (some-is item (g f) e) in omega (arith, same, within f)
 

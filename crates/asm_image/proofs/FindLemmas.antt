@@ -37,11 +37,11 @@ not-both md name row whole short =
     longer (short_name md row) (signature md row).types
     (sym (name-splits md row) ∙ sym ((bytes_eq-Decides name (printed_name md row)).0 whole) ∙ (bytes_eq-Decides name (short_name md row)).0 short)
 
--- What is found with one row more at the front.
-found-front : (row : ℕ) (rows : List ℕ) → found (row ∷ rows) ≡ Some (one_more (found rows) (method_token row))
-found-front row [] = refl
-found-front row (first ∷ []) = refl
-found-front row (first ∷ second ∷ others) = refl
+-- What is found with one row more at the start.
+found-prefix : (row : ℕ) (rows : List ℕ) → found (row ∷ rows) ≡ Some (one_more (found rows) (method_token row))
+found-prefix row [] = refl
+found-prefix row (first ∷ []) = refl
+found-prefix row (first ∷ second ∷ others) = refl
 
 either-first : (first second : Option Found) (token : Token) → Some (one_more (either first second) token) ≡ either (Some (one_more first token)) second
 either-first None None token = refl
@@ -66,10 +66,10 @@ two-tests a b (row ∷ rows) apart = by (a row) (b row) (apart row) (two-tests a
         ≡ either (found (cond here (row ∷ filter a rows) (filter a rows))) (found (cond there (row ∷ filter b rows) (filter b rows)))
     by true true both rest = absurd (both refl refl)
     by true false both rest =
-        rw (found-front row (filter (λ row. a row || b row) rows), found-front row (filter a rows), rest)
+        rw (found-prefix row (filter (λ row. a row || b row) rows), found-prefix row (filter a rows), rest)
         (either-first (found (filter a rows)) (found (filter b rows)) (method_token row))
     by false true both rest =
-        rw (found-front row (filter (λ row. a row || b row) rows), found-front row (filter b rows), rest)
+        rw (found-prefix row (filter (λ row. a row || b row) rows), found-prefix row (filter b rows), rest)
         (either-second (found (filter a rows)) (found (filter b rows)) (method_token row))
     by false false both rest = rest
 
@@ -109,7 +109,7 @@ found-down test (suc n) later = by (test (suc n)) (found-down test n) ∙ ap (λ
     by : (b : Bool) → ((rows : List ℕ) → found_down test (found rows) n ≡ found (filter test (range_with_len 1 n) ++ rows)) → found_down test (cond b (Some (one_more (found later) (method_token (suc n)))) (found later)) n
         ≡ found ((filter test (range_with_len 1 n) ++ cond b (suc n ∷ []) []) ++ later)
     by true before =
-        rw (← found-front (suc n) later)
+        rw (← found-prefix (suc n) later)
         (before (suc n ∷ later) ∙ ap found (sym (append_assoc (filter test (range_with_len 1 n)) (suc n ∷ []) later)))
     by false before = before later ∙ ap (λ (rows : List ℕ). found (rows ++ later)) (sym (append-nil (filter test (range_with_len 1 n))))
 
@@ -207,15 +207,15 @@ abbrev pub whole_test : List ℕ → List ℕ → ℕ → Bool
 whole_test md name row = bytes_eq name (printed_name md row)
 
 -- A name up to the types of its parameters is that of a method.
-abbrev pub HasFront : List ℕ → List ℕ → ℕ → Type 0
-HasFront md name row = (front : List ℕ) (types : SigTypes) → name ≡ front ++ types_text types → front ≡ short_name md row
+abbrev pub HasPrefix : List ℕ → List ℕ → ℕ → Type 0
+HasPrefix md name row = (prefix : List ℕ) (types : SigTypes) → name ≡ prefix ++ types_text types → prefix ≡ short_name md row
 
-only-front : (md name : List ℕ) (row other : ℕ) → HasFront md name row → whole_test md name other ≡ true → bytes_eq (short_name md row) (short_name md other) ≡ true
-only-front md name row other has e =
+only-prefix : (md name : List ℕ) (row other : ℕ) → HasPrefix md name row → whole_test md name other ≡ true → bytes_eq (short_name md row) (short_name md other) ≡ true
+only-prefix md name row other has e =
     let is : name ≡ printed_name md other = (bytes_eq-Decides name (printed_name md other)).0 e in
     (bytes_eq-Decides (short_name md row) (short_name md other)).1 (sym (has (short_name md other) (signature md other).types (is ∙ name-splits md other)))
 
-module _ (md name short : List ℕ) (n row : ℕ) (cut : (front : List ℕ) (types : SigTypes) → name ≡ front ++ types_text types → short ≡ front) (is : row ≡ last_named md short n) where
+module _ (md name short : List ℕ) (n row : ℕ) (cut : (prefix : List ℕ) (types : SigTypes) → name ≡ prefix ++ types_text types → short ≡ prefix) (is : row ≡ last_named md short n) where
   only-cut : (other : ℕ) → whole_test md name other ≡ true → bytes_eq short (short_name md other) ≡ true
   only-cut other e =
       let whole : name ≡ printed_name md other = (bytes_eq-Decides name (printed_name md other)).0 e in
@@ -224,24 +224,24 @@ module _ (md name short : List ℕ) (n row : ℕ) (cut : (front : List ℕ) (typ
   pub whole_start : found_down (λ row. bytes_eq name (printed_name md row)) None row ≡ found (filter (λ row. bytes_eq name (printed_name md row)) (range_with_len 1 n))
   whole_start = rw is (sym (down_skips md short (whole_test md name) None n only-cut) ∙ down_is (whole_test md name) n)
 
-  pub front_start : 1 ≤ row → HasFront md name row
-  front_start some front types same =
+  pub prefix_start : 1 ≤ row → HasPrefix md name row
+  prefix_start some prefix types same =
       let has : bytes_eq short (short_name md row) ≡ true = rw is (last_has md short n (omega (arith, is))) in
-      sym (cut front types same) ∙ (bytes_eq-Decides short (short_name md row)).0 has
+      sym (cut prefix types same) ∙ (bytes_eq-Decides short (short_name md row)).0 has
 
 -- The method before one of the same name.
-pub whole_next : (md name : List ℕ) (row before : ℕ) (acc more all : Option Found) → HasFront md name row → 1 ≤ row
+pub whole_next : (md name : List ℕ) (row before : ℕ) (acc more all : Option Found) → HasPrefix md name row → 1 ≤ row
     → before ≡ last_named md (short_name md row) (row - 1) → more ≡ cond (bytes_eq name (printed_name md row)) (Some (one_more acc (method_token row))) acc
     → found_down (λ row. bytes_eq name (printed_name md row)) acc row ≡ all → found_down (λ row. bytes_eq name (printed_name md row)) more before ≡ all
 whole_next md name zero before acc more all has some next is rest = absurd (omega arith)
 whole_next md name (suc k) before acc more all has some next is rest =
     let same : suc k - 1 ≡ k = omega arith in
-    rw (next, same, is) (sym (down_skips md (short_name md (suc k)) (whole_test md name) (cond (bytes_eq name (printed_name md (suc k))) (Some (one_more acc (method_token (suc k)))) acc) k (λ other e. only-front md name (suc k) other has e)) ∙ rest)
+    rw (next, same, is) (sym (down_skips md (short_name md (suc k)) (whole_test md name) (cond (bytes_eq name (printed_name md (suc k))) (Some (one_more acc (method_token (suc k)))) acc) k (λ other e. only-prefix md name (suc k) other has e)) ∙ rest)
 
-pub front_next : (md name : List ℕ) (row before : ℕ) → HasFront md name row → before ≡ last_named md (short_name md row) (row - 1) → 1 ≤ before → HasFront md name before
-front_next md name row before has next some front types same =
+pub prefix_next : (md name : List ℕ) (row before : ℕ) → HasPrefix md name row → before ≡ last_named md (short_name md row) (row - 1) → 1 ≤ before → HasPrefix md name before
+prefix_next md name row before has next some prefix types same =
     let last : bytes_eq (short_name md row) (short_name md before) ≡ true = rw next (last_has md (short_name md row) (row - 1) (omega (arith, next))) in
-    has front types same ∙ (bytes_eq-Decides (short_name md row) (short_name md before)).0 last
+    has prefix types same ∙ (bytes_eq-Decides (short_name md row) (short_name md before)).0 last
 
 -- ---- rows of methods
 

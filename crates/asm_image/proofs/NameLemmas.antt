@@ -78,31 +78,31 @@ opens-nowhere text k none h e =
     true≢false (sym none ∙ list_all_at (λ byte. not (byte == 0x28)) text k 0 h fails)
 
 -- Where the last parenthesis opens, a printed name goes over to its types.
-last-opens : (front rest : List ℕ) (i : ℕ) → opens_none rest ≡ true → i < length (front ++ 0x28 ∷ rest) → get_or (front ++ 0x28 ∷ rest) i 0 ≡ 0x28
-    → ((k : ℕ) → i + 1 ≤ k → k < length (front ++ 0x28 ∷ rest) → get_or (front ++ 0x28 ∷ rest) k 0 ≢ 0x28) → i ≡ length front
-last-opens front rest i none h here later =
-    let whole : length (front ++ 0x28 ∷ rest) ≡ length front + suc (length rest) = length-append front (0x28 ∷ rest) in
-    elim (cases_order i (length front)) [
+last-opens : (prefix rest : List ℕ) (i : ℕ) → opens_none rest ≡ true → i < length (prefix ++ 0x28 ∷ rest) → get_or (prefix ++ 0x28 ∷ rest) i 0 ≡ 0x28
+    → ((k : ℕ) → i + 1 ≤ k → k < length (prefix ++ 0x28 ∷ rest) → get_or (prefix ++ 0x28 ∷ rest) k 0 ≢ 0x28) → i ≡ length prefix
+last-opens prefix rest i none h here later =
+    let whole : length (prefix ++ 0x28 ∷ rest) ≡ length prefix + suc (length rest) = length-append prefix (0x28 ∷ rest) in
+    elim (cases_order i (length prefix)) [
       | inl same ↦ same
-      | inr (inl before) ↦ absurd (later (length front) (omega arith) (omega (arith, whole)) (get_or_at front 0x28 rest 0 (length front) refl))
+      | inr (inl before) ↦ absurd (later (length prefix) (omega arith) (omega (arith, whole)) (get_or_at prefix 0x28 rest 0 (length prefix) refl))
       | inr (inr beyond) ↦
-          let k = i - suc (length front) in
-          let place : i - length front ≡ suc k = omega arith in
-          let there : get_or (front ++ 0x28 ∷ rest) i 0 ≡ get_or rest k 0 =
-          get_or-append_right front (0x28 ∷ rest) (length front) i 0 refl (omega arith) ∙ rw place refl in
+          let k = i - suc (length prefix) in
+          let place : i - length prefix ≡ suc k = omega arith in
+          let there : get_or (prefix ++ 0x28 ∷ rest) i 0 ≡ get_or rest k 0 =
+          get_or-append_right prefix (0x28 ∷ rest) (length prefix) i 0 refl (omega arith) ∙ rw place refl in
           absurd (opens-nowhere rest k none (omega (arith, whole)) (sym there ∙ here))
     ]
 
-pub front-taken : (name front : List ℕ) (said : SigTypes) (i : ℕ) → name ≡ front ++ types_text said → i < length name → get_or name i 0 ≡ 0x28
-    → ((k : ℕ) → i + 1 ≤ k → k < length name → get_or name k 0 ≢ 0x28) → take i name ≡ front
-front-taken name front said i is h here later =
-    let whole : name ≡ front ++ 0x28 ∷ behind said = is ∙ ap (λ text. front ++ text) (types-open said) in
-    let place : i ≡ length front =
-    last-opens front (behind said) i (behind-opens_none said) (rw (← whole) h) (rw (← whole) here) (rw (← whole) later) in
-    rw (whole, place) (take-append_seam front (0x28 ∷ behind said))
+pub prefix-taken : (name prefix : List ℕ) (said : SigTypes) (i : ℕ) → name ≡ prefix ++ types_text said → i < length name → get_or name i 0 ≡ 0x28
+    → ((k : ℕ) → i + 1 ≤ k → k < length name → get_or name k 0 ≢ 0x28) → take i name ≡ prefix
+prefix-taken name prefix said i is h here later =
+    let whole : name ≡ prefix ++ 0x28 ∷ behind said = is ∙ ap (λ text. prefix ++ text) (types-open said) in
+    let place : i ≡ length prefix =
+    last-opens prefix (behind said) i (behind-opens_none said) (rw (← whole) h) (rw (← whole) here) (rw (← whole) later) in
+    rw (whole, place) (take-append_seam prefix (0x28 ∷ behind said))
 
-pub opens-somewhere : (name front : List ℕ) (said : SigTypes) → name ≡ front ++ types_text said → All (λ byte. byte ≢ 0x28) name → ⊥
-opens-somewhere name front said is none =
-    let whole : name ≡ front ++ 0x28 ∷ behind said = is ∙ ap (λ text. front ++ text) (types-open said) in
-    let long : length name ≡ length front + suc (length (behind said)) = ap length whole ∙ length-append front (0x28 ∷ behind said) in
-    All-get_or (λ byte. byte ≢ 0x28) name (length front) 0 (omega (arith, long)) none (rw whole (get_or_at front 0x28 (behind said) 0 (length front) refl))
+pub opens-somewhere : (name prefix : List ℕ) (said : SigTypes) → name ≡ prefix ++ types_text said → All (λ byte. byte ≢ 0x28) name → ⊥
+opens-somewhere name prefix said is none =
+    let whole : name ≡ prefix ++ 0x28 ∷ behind said = is ∙ ap (λ text. prefix ++ text) (types-open said) in
+    let long : length name ≡ length prefix + suc (length (behind said)) = ap length whole ∙ length-append prefix (0x28 ∷ behind said) in
+    All-get_or (λ byte. byte ≢ 0x28) name (length prefix) 0 (omega (arith, long)) none (rw whole (get_or_at prefix 0x28 (behind said) 0 (length prefix) refl))

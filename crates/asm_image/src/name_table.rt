@@ -54,7 +54,7 @@ pub struct NameTable {
 
 /// A printed name up to the types of its parameters.
 pub fn short_name(name: &[u8]) -> &[u8]
-    ensures { (front : List ℕ) (types : SigTypes) → name.now ≡ front ++ types_text types → result.now ≡ front }
+    ensures { (prefix : List ℕ) (types : SigTypes) → name.now ≡ prefix ++ types_text types → result.now ≡ prefix }
 {
     match name.iter().rposition(|&byte| byte == b'(') {
         Some(end) => &name[..end],

@@ -173,17 +173,17 @@ pub next_file : (files : List (List ℕ)) (index file : ℕ) (asm : List ℕ) (o
     → ((before : List Named) → TellsHomes old before → TellsHomes new (before ++ named_in file asm))
     → TellsHomes new (all_named 0 (take (index + 1) files))
 next_file files index file asm old new lt is same told noted =
-    let long : length (take index files) ≡ index = length_front files index lt in
+    let long : length (take index files) ≡ index = length_prefix files index lt in
     let number : 0 + length (take index files) ≡ file = omega (arith, long, same) in
     let longer : all_named 0 (take (index + 1) files) ≡ all_named 0 (take index files) ++ named_in file asm =
     ap (all_named 0) (take_more files index asm lt ∙ ap (λ (a : List ℕ). take index files ++ a ∷ []) (sym is))
     ∙ named_more 0 (take index files) asm ∙ ap (λ (n : ℕ). all_named 0 (take index files) ++ named_in n asm) number in
     subst (TellsHomes new) (sym longer) (noted (all_named 0 (take index files)) told)
   where
-    length_front : {X : Type 0} (xs : List X) (n : ℕ) → n < length xs → length (take n xs) ≡ n
-    length_front [] n lt = absurd (omega (arith, lt))
-    length_front (x ∷ xs) zero lt = refl
-    length_front (x ∷ xs) (suc n) lt = ap suc (length_front xs n (omega (arith, lt)))
+    length_prefix : {X : Type 0} (xs : List X) (n : ℕ) → n < length xs → length (take n xs) ≡ n
+    length_prefix [] n lt = absurd (omega (arith, lt))
+    length_prefix (x ∷ xs) zero lt = refl
+    length_prefix (x ∷ xs) (suc n) lt = ap suc (length_prefix xs n (omega (arith, lt)))
 
 pub last_file : (files : List (List ℕ)) (index : ℕ) (table : Table) → length files ≤ index → TellsHomes table (all_named 0 (take index files)) → TellsHomes table (all_named 0 files)
 last_file files index table past told = subst (λ (fs : List (List ℕ)). TellsHomes table (all_named 0 fs)) (take_all index files past) told

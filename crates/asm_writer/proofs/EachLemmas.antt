@@ -15,9 +15,9 @@ each_after index f (x ∷ xs) m =
 pub each_more : {X : Type 0} (f : ℕ → MethodPlan → List X) (ms : List MethodPlan) (i : ℕ) (m : MethodPlan) → i < length ms → m ≡ get_or ms i m
     → each_from 0 f (take (i + 1) ms) ≡ each_from 0 f (take i ms) ++ f i m
 each_more f ms i m lt is =
-    let front : length (take i ms) ≡ i = length-take-le i ms (omega arith) in
+    let prefix : length (take i ms) ≡ i = length-take-le i ms (omega arith) in
     let more : take (i + 1) ms ≡ take i ms ++ m ∷ [] = take_more ms i m lt ∙ ap (λ (x : MethodPlan). take i ms ++ x ∷ []) (sym is) in
-    rw more (each_after 0 f (take i ms) m ∙ ap (λ (k : ℕ). each_from 0 f (take i ms) ++ f k m) (zero-add _ ∙ front))
+    rw more (each_after 0 f (take i ms) m ∙ ap (λ (k : ℕ). each_from 0 f (take i ms) ++ f k m) (zero-add _ ∙ prefix))
 
 pub each_none : {X : Type 0} (index : ℕ) (f : ℕ → MethodPlan → List X) → each_from index f [] ≡ []
 unfolding each_from

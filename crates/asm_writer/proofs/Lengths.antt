@@ -132,9 +132,9 @@ length_metadata all =
     let stream = length_stream l all.plan.methods.items in
     let strings = length_filled (string_items all) in
     let blobs = length_filled (blob_items all.plan.methods.items all.externs) in
-    let front = length_root (length (root 0 (streams tables l))) tables l ∙ sym (length_root 0 tables l) in
+    let prefix = length_root (length (root 0 (streams tables l))) tables l ∙ sym (length_root 0 tables l) in
     let parts = length_joined (length (root 0 (streams tables l))) tables l in
-    both _ _ _ _ front (parts ∙ rw (stream, strings, blobs) refl) ∙ grouped _ _ _ _ _ _
+    both _ _ _ _ prefix (parts ∙ rw (stream, strings, blobs) refl) ∙ grouped _ _ _ _ _ _
 
 -- The whole.
 length_section : (all : Linked) → length (section_of all) ≡ section_size all
@@ -200,11 +200,11 @@ few_names (e ∷ externs) =
 
 names_below : (all : Linked) → items_size (flat_map extern_name_items all.externs) ≤ items_size (string_items all)
 names_below all =
-    let front = map (name_item all.plan) cited_names ++ map method_name_item all.plan.methods.items in
+    let prefix = map (name_item all.plan) cited_names ++ map method_name_item all.plan.methods.items in
     let names = flat_map extern_name_items all.externs in
     let own = own_name_items all.plan all.assembly in
-    let two = sum_by-append length front names in
-    let three = sum_by-append length (front ++ names) own in
+    let two = sum_by-append length prefix names in
+    let three = sum_by-append length (prefix ++ names) own in
     omega arith
 
 strings_below : (all : Linked) → items_size (string_items all) + 108 ≤ metadata_size all

@@ -53,17 +53,17 @@ joined root_size all = fold (added root_size) (record { headers = []; bytes = []
 abbrev pub version : List ℕ
 version = padded_text (codes "v4.0.30319")
 
--- The front of the root (II.24.2.1): its signature, versions and a reserved number, the version's text with its
+-- The root as far as its streams (II.24.2.1): its signature, versions and a reserved number, the version's text with its
 -- length, Flags and the number of streams.
-unfoldable pub root_front : ℕ → List ℕ
-root_front count =
+unfoldable pub root_prefix : ℕ → List ℕ
+root_prefix count =
     numbers_bytes (Four 0x424a5342 ∷ Zeros 8 ∷ Four (length version) ∷ [])
     ++ version
     ++ numbers_bytes (Two 0 ∷ Two count ∷ [])
 
 -- The root with the headers of the streams.
 unfoldable pub root : ℕ → List Stream → List ℕ
-root size all = root_front (length all) ++ (joined size all).headers
+root size all = root_prefix (length all) ++ (joined size all).headers
 
 -- How many bytes the root has, wherever the streams stand.
 unfoldable pub root_size : List Stream → ℕ

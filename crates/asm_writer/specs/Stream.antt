@@ -36,7 +36,7 @@ count_bytes l table = numbers_bytes (count_numbers l table)
 abbrev pub table_bytes : Layout → List MethodPlan → Table → List ℕ
 table_bytes l methods table = rows_bytes l (table_rows methods l.externs table)
 
--- The numbers in front, the row counts and the rows, filled up to a multiple of four.
+-- The numbers before, the row counts and the rows, filled up to a multiple of four.
 unfoldable pub tables_stream : Layout → List MethodPlan → List ℕ
 tables_stream l methods =
     padded 4

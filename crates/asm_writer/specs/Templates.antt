@@ -63,13 +63,13 @@ fill_code =
     ∷ 0x02 ∷ 0x03 ∷ 0x94 ∷ 0x16 ∷ 0xfe ∷ 0x01 ∷ 0x28 ∷ 0x05 ∷ 0x00 ∷ 0x00 ∷ 0x0a ∷ 0x2a ∷ []
 
 -- The number n and the sum of those below it, by a call of the method itself, where n is required not to be negative.
-abbrev pub sum_front : List ℕ
-sum_front =
+abbrev pub sum_prefix : List ℕ
+sum_prefix =
     0x02 ∷ 0x16 ∷ 0xfe ∷ 0x04 ∷ 0x16 ∷ 0xfe ∷ 0x01 ∷ 0x28 ∷ 0x01 ∷ 0x00 ∷ 0x00 ∷ 0x0a
     ∷ 0x02 ∷ 0x2d ∷ 0x02 ∷ 0x16 ∷ 0x2a ∷ 0x02 ∷ 0x02 ∷ 0x17 ∷ 0x59 ∷ 0x28 ∷ []
 
 unfoldable pub sum_code : ℕ → List ℕ
-sum_code token = sum_front ++ little_bytes 4 token ++ 0x58 ∷ 0x2a ∷ []
+sum_code token = sum_prefix ++ little_bytes 4 token ++ 0x58 ∷ 0x2a ∷ []
 
 -- Begins with an opcode that the profile lacks.
 unfoldable pub bad_code : List ℕ

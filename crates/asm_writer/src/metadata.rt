@@ -1,7 +1,7 @@
 //! The metadata (ECMA-335 II.24.2).
 
 ghost use Rattle.std.specs.Prelude.{◌≡◌, ◌++◌, ◌<◌, ◌^◌, length, IfOk, OnOk};
-ghost use Rattle.asm_writer.specs.Metadata.{added, joined, streams, root_front, metadata};
+ghost use Rattle.asm_writer.specs.Metadata.{added, joined, streams, root_prefix, metadata};
 
 use crate::layout::Layout;
 use crate::number::Number::{Four, Two, Zeros};
@@ -66,9 +66,9 @@ fn join(alloc: Global, layout: &Layout, tables: &[u8]) -> Result<Streams, AllocE
 }
 
 /// Appends what stands before the stream headers (II.24.2.1).
-#[tactic(auto, unfolding(crate::specs::Metadata::root_front, crate::specs::Metadata::padded_text, crate::specs::Padding::padded, crate::specs::Padding::round_up, crate::specs::Names::zero_ended))]
-fn append_root_front(out: &mut Vec<u8>) -> Result<(), AllocError>
-    ensures { OnOk result (out.new.items ≡ out.old.items ++ root_front 5) }
+#[tactic(auto, unfolding(crate::specs::Metadata::root_prefix, crate::specs::Metadata::padded_text, crate::specs::Padding::padded, crate::specs::Padding::round_up, crate::specs::Names::zero_ended))]
+fn append_root_prefix(out: &mut Vec<u8>) -> Result<(), AllocError>
+    ensures { OnOk result (out.new.items ≡ out.old.items ++ root_prefix 5) }
 {
     append_numbers(out, &[Four(0x424a_5342), Zeros(8), Four(12)])?;
     out.extend_from_slice(b"v4.0.30319\0\0")?;
@@ -89,7 +89,7 @@ pub fn metadata(
     let tables = tables_stream(alloc, layout, methods)?;
     let streams = join(alloc, layout, &tables)?;
     let mut out = Vec::new(alloc);
-    append_root_front(&mut out)?;
+    append_root_prefix(&mut out)?;
     out.extend_from_slice(&streams.headers)?;
     out.extend_from_slice(&streams.bytes)?;
     Ok(out)

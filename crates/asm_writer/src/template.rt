@@ -1,7 +1,7 @@
 //! The kinds of methods that are generated.
 
 ghost use Rattle.std.specs.Prelude.{◌≡◌, ◌++◌, ◌≤◌, ◌<◌, ◌^◌, length, OnOk};
-ghost use Rattle.asm_writer.specs.Templates.{template_of, result_of, args_of, locals_of, code_of, constant_code, sum_code, sum_front, div_code, array_sum_code, fill_code, bad_code};
+ghost use Rattle.asm_writer.specs.Templates.{template_of, result_of, args_of, locals_of, code_of, constant_code, sum_code, sum_prefix, div_code, array_sum_code, fill_code, bad_code};
 
 use cil_model::Place;
 use std::alloc::AllocError;

@@ -16,7 +16,7 @@ pub second_writes : {X : Type 0} (r : Result X Interrupt) (old mid new : Option 
 second_writes (Ok x) old mid new p0 p1 p2 f0 f1 f2 a b first puts kept w = record {
   whole = w.whole ∙ ap (λ (told : Option (List ℕ)). appended told b) first ∙ appended-appended old a b;
   puts = w.puts ∙ ap (λ (told : Option ℕ). counted (line_count b) told) puts ∙ counted-lines a b p0;
-  front = tt;
+  prefix = tt;
   cause = λ is. absurd cc;
   kept = Kept-trans f0 f1 f2 kept w.kept;
 }

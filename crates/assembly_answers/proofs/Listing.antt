@@ -21,12 +21,12 @@ use Rattle.answer_lines.proofs.Writings.{change, writes_stop}
 abbrev pub lines : List MethodRow → List ℕ
 lines walk = flat_map method_line walk
 
--- Of the lines of a walk a front was written, each put at once, and after it come those of the rest.
+-- Of the lines of a walk a prefix was written, each put at once, and after it come those of the rest.
 pub record AtRest (old mid : Option (List ℕ)) (p0 p1 : Option ℕ) (rest walk : List MethodRow) : Type 0 where
-  pub front : List ℕ
-  pub so_far : mid ≡ appended old front
-  pub puts : p1 ≡ counted (line_count front) p0
-  pub all : front ++ lines rest ≡ lines walk
+  pub prefix : List ℕ
+  pub so_far : mid ≡ appended old prefix
+  pub puts : p1 ≡ counted (line_count prefix) p0
+  pub all : prefix ++ lines rest ≡ lines walk
   pub named : AreNamedPlainly rest
 
 line_first : (walk : List MethodRow) (token : Token) → first_token walk ≡ Some token → lines walk ≡ line_of token (first_name walk) ++ lines (drop 1 walk)
@@ -48,17 +48,17 @@ left_plain (row ∷ rows) named = named.1
 
 pub rest_begins : (old : Option (List ℕ)) (p : Option ℕ) (walk : List MethodRow) → AreNamedPlainly walk → AtRest old old p p walk walk
 unfolding line_count
-rest_begins old p walk named = record { front = []; so_far = sym (appended-nil old); puts = refl; all = refl; named = named }
+rest_begins old p walk named = record { prefix = []; so_far = sym (appended-nil old); puts = refl; all = refl; named = named }
 
 pub rest_next : (old mid new : Option (List ℕ)) (p0 p1 p2 : Option ℕ) (rest walk : List MethodRow) (token : Token) → AtRest old mid p0 p1 rest walk → first_token rest ≡ Some token
     → new ≡ appended mid (line_of token (first_name rest)) → p2 ≡ counted (line_count (line_of token (first_name rest))) p1 → AtRest old new p0 p2 (drop 1 rest) walk
 rest_next old mid new p0 p1 p2 rest walk token at there written put =
     let line = line_of token (first_name rest) in
     record {
-      front = at.front ++ line;
-      so_far = written ∙ ap (λ told. appended told line) at.so_far ∙ appended-appended old at.front line;
-      puts = put ∙ ap (λ (told : Option ℕ). counted (line_count line) told) at.puts ∙ counted-lines at.front line p0;
-      all = append_assoc at.front line (lines (drop 1 rest)) ∙ ap (λ text. at.front ++ text) (sym (line_first rest token there)) ∙ at.all;
+      prefix = at.prefix ++ line;
+      so_far = written ∙ ap (λ told. appended told line) at.so_far ∙ appended-appended old at.prefix line;
+      puts = put ∙ ap (λ (told : Option ℕ). counted (line_count line) told) at.puts ∙ counted-lines at.prefix line p0;
+      all = append_assoc at.prefix line (lines (drop 1 rest)) ∙ ap (λ text. at.prefix ++ text) (sym (line_first rest token there)) ∙ at.all;
       named = left_plain rest at.named;
     }
 
@@ -67,13 +67,13 @@ pub rest_stops : {X Y : Type 0} (e : Interrupt) (old mid new : Option (List ℕ)
     → Writes {X = X} (Err e) (change mid new p1 p2 f1 f2) (line_of token (first_name rest)) → Writes {X = Y} (Err e) (change old new p0 p2 f0 f2) (lines walk)
 rest_stops {X} {Y} e old mid new p0 p1 p2 f0 f1 f2 rest walk token at there kept w =
     let line = line_of token (first_name rest) in
-    let whole : lines walk ≡ at.front ++ line ++ lines (drop 1 rest) =
-    sym at.all ∙ ap (λ text. at.front ++ text) (line_first rest token there) ∙ sym (append_assoc at.front line (lines (drop 1 rest))) in
-    writes_stop {X = X} {Y = Y} e old mid new p0 p1 p2 f0 f1 f2 at.front line (lines walk) at.so_far kept w (lines (drop 1 rest), whole)
+    let whole : lines walk ≡ at.prefix ++ line ++ lines (drop 1 rest) =
+    sym at.all ∙ ap (λ text. at.prefix ++ text) (line_first rest token there) ∙ sym (append_assoc at.prefix line (lines (drop 1 rest))) in
+    writes_stop {X = X} {Y = Y} e old mid new p0 p1 p2 f0 f1 f2 at.prefix line (lines walk) at.so_far kept w (lines (drop 1 rest), whole)
 
 -- Nothing is left, so all lines are written.
-all_lines : (old mid : Option (List ℕ)) (p0 p1 : Option ℕ) (rest walk : List MethodRow) (at : AtRest old mid p0 p1 rest walk) → first_token rest ≡ None → at.front ≡ lines walk
-all_lines old mid p0 p1 [] walk at none = sym (append-nil at.front) ∙ at.all
+all_lines : (old mid : Option (List ℕ)) (p0 p1 : Option ℕ) (rest walk : List MethodRow) (at : AtRest old mid p0 p1 rest walk) → first_token rest ≡ None → at.prefix ≡ lines walk
+all_lines old mid p0 p1 [] walk at none = sym (append-nil at.prefix) ∙ at.all
 all_lines old mid p0 p1 (row ∷ rows) walk at none = absurd cc
 
 pub rest_ends : (old mid : Option (List ℕ)) (p0 p1 : Option ℕ) (rest walk : List MethodRow) → AtRest old mid p0 p1 rest walk → first_token rest ≡ None → mid ≡ appended old (lines walk)

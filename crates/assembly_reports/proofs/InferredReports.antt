@@ -4,14 +4,14 @@ use Rattle.cil_model.specs.declared.clause.Clause.{Clause}
 use Rattle.unit_builder.specs.FileSets.{Alone, FileSet, files_in}
 use Rattle.unit_builder.specs.Outcomes.{entries_of}
 use Rattle.unit_builder.specs.declared.entry.MethodEntry.{MethodEntry}
-use Rattle.unit_verdicts.specs.Asked.{Asks, AsksFront}
+use Rattle.unit_verdicts.specs.Asked.{Asks, AsksPrefix}
 use Rattle.unit_verdicts.specs.Picks.{Pick, pick_from}
 use Rattle.unit_verdicts.specs.VerdictCache.{CachedUnits}
 use Rattle.assembly_reports.specs.JudgedUnits.{asked_for, judged_keys, report_keys, with_judged}
 use Rattle.assembly_reports.specs.InferredUnits.{all_candidates, inferred_entries}
 use Rattle.assembly_reports.specs.Reportable.{CanRun, entries_at}
 use Rattle.assembly_reports.proofs.FindAll.{entries_of_alone}
-use Rattle.assembly_reports.proofs.Judging.{asks_later, front_of_first, judged_more}
+use Rattle.assembly_reports.proofs.Judging.{asks_later, prefix_of_first, judged_more}
 
 pub one_file : (units : FileSet) (asm : List ℕ) → units ≡ Alone asm → 0 < (files_in units).count
 one_file units asm is = subst (λ (files : FileSet). 0 < (files_in files).count) (sym is) (omega arith)
@@ -57,8 +57,8 @@ module _ (units : FileSet) (asm : List ℕ) (old mid : CachedUnits) (is : units 
       (subst (λ (keys : List (List ℕ)). Asks (asked_for mid keys) r asked new) second_is asks)
 
 -- What was asked where the first pass was interrupted.
-pub first_front : (units : FileSet) (asm : List ℕ) (cache : CachedUnits) (pick : Pick) (before new : List (List ℕ)) → units ≡ Alone asm
-    → AsksFront (asked_for cache (judged_keys (entries_at units 0))) before new → AsksFront (asked_for cache (report_keys true pick asm)) before new
-first_front units asm cache pick before new is front =
-    front_of_first cache (judged_keys (entries_of asm)) (judged_keys (inferred_entries pick asm)) before new
-    (subst (λ (entries : List MethodEntry). AsksFront (asked_for cache (judged_keys entries)) before new) (entries_of_alone units asm is) front)
+pub first_prefix : (units : FileSet) (asm : List ℕ) (cache : CachedUnits) (pick : Pick) (before new : List (List ℕ)) → units ≡ Alone asm
+    → AsksPrefix (asked_for cache (judged_keys (entries_at units 0))) before new → AsksPrefix (asked_for cache (report_keys true pick asm)) before new
+first_prefix units asm cache pick before new is prefix =
+    prefix_of_first cache (judged_keys (entries_of asm)) (judged_keys (inferred_entries pick asm)) before new
+    (subst (λ (entries : List MethodEntry). AsksPrefix (asked_for cache (judged_keys entries)) before new) (entries_of_alone units asm is) prefix)

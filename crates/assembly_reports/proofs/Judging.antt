@@ -1,11 +1,11 @@
 -- A cache, as units are judged one after another.
 use Rattle.std.proofs.Common.{◌≡◌, ℕ, Bool, false, List, [], ◌∷◌, ◌++◌, Result, refl, sym, ap, subst, ◌∙◌, append-nil}
-use Rattle.unit_verdicts.specs.Asked.{Asks, AsksFront, asked_from, distinct, unseen, without_entry}
+use Rattle.unit_verdicts.specs.Asked.{Asks, AsksPrefix, asked_from, distinct, unseen, without_entry}
 use Rattle.unit_verdicts.specs.VerdictCache.{CachedUnits}
 use Rattle.unit_verdicts.specs.declared.source.Source.{Source}
 use Rattle.unit_verdicts.specs.declared.source.Source.TheVariants.{Cache as OfCache, Proof as OfProof}
 use Rattle.unit_verdicts.proofs.Asking.{asks_none}
-use Rattle.unit_verdicts.proofs.Unseen.{asked_then, asks_then, front_first, front_then, judged_then}
+use Rattle.unit_verdicts.proofs.Unseen.{asked_then, asks_then, prefix_first, prefix_then, judged_then}
 use Rattle.proof_files.specs.Proofs.{Entry as ProofEntry}
 use Rattle.assembly_reports.specs.JudgedUnits.{asked_for, with_judged}
 
@@ -57,12 +57,12 @@ module _ (old mid : CachedUnits) (first : Keys) (is : mid ≡ with_judged old fi
   asked_more later before asked new so_far then =
       asked_then old.held old.keys (old.keys ++ unseen old.keys first) first later before asked new refl so_far (then ∙ ap (λ (l : Keys). asked ++ l) (same_asked later))
 
-  -- A front of what is asked for the others, once all was asked for the first.
-  pub front_later : (later before asked new : Keys) → asked ≡ before ++ asked_for old first → AsksFront (asked_for mid later) asked new
-      → AsksFront (asked_for old (first ++ later)) before new
-  front_later later before asked new so_far front =
-      front_then old.held old.keys (old.keys ++ unseen old.keys first) first later before asked new refl so_far
-      (subst (λ (l : Keys). AsksFront l asked new) (same_asked later) front)
+  -- A prefix of what is asked for the others, once all was asked for the first.
+  pub prefix_later : (later before asked new : Keys) → asked ≡ before ++ asked_for old first → AsksPrefix (asked_for mid later) asked new
+      → AsksPrefix (asked_for old (first ++ later)) before new
+  prefix_later later before asked new so_far prefix =
+      prefix_then old.held old.keys (old.keys ++ unseen old.keys first) first later before asked new refl so_far
+      (subst (λ (l : Keys). AsksPrefix l asked new) (same_asked later) prefix)
 
   pub asks_later : {X E : Type 0} (later before asked new : Keys) (r : Result X E) → asked ≡ before ++ asked_for old first → Asks (asked_for mid later) r asked new
       → Asks (asked_for old (first ++ later)) r before new
@@ -70,9 +70,9 @@ module _ (old mid : CachedUnits) (first : Keys) (is : mid ≡ with_judged old fi
       asks_then old.held old.keys (old.keys ++ unseen old.keys first) first later before asked new r refl so_far
       (subst (λ (l : Keys). Asks l r asked new) (same_asked later) asks)
 
--- A front of what is asked for the first is one of what is asked for all.
-pub front_of_first : (cache : CachedUnits) (first later before new : Keys) → AsksFront (asked_for cache first) before new → AsksFront (asked_for cache (first ++ later)) before new
-front_of_first cache first later before new front = front_first cache.held cache.keys first later before new front
+-- A prefix of what is asked for the first is one of what is asked for all.
+pub prefix_of_first : (cache : CachedUnits) (first later before new : Keys) → AsksPrefix (asked_for cache first) before new → AsksPrefix (asked_for cache (first ++ later)) before new
+prefix_of_first cache first later before new prefix = prefix_first cache.held cache.keys first later before new prefix
 
 -- ---- no cache file
 
@@ -100,8 +100,8 @@ asks_alone cache show keys r old new is asks =
 pub asks_by_proof : {X E : Type 0} (cache : CachedUnits) (entries : List ProofEntry) (keys : Keys) (r : Result X E) (old new : Keys) → cache.held ≡ OfProof entries
     → Asks (asked_for cache keys) r old new → new ≡ old
 asks_by_proof cache entries keys r old new is asks =
-    by (subst (λ (l : Keys). AsksFront l old new) (ap (λ (held : Source). asked_from held (unseen cache.keys keys)) is) asks.front)
+    by (subst (λ (l : Keys). AsksPrefix l old new) (ap (λ (held : Source). asked_from held (unseen cache.keys keys)) is) asks.prefix)
   where
-    by : AsksFront [] old new → new ≡ old
+    by : AsksPrefix [] old new → new ≡ old
     by ([], (rest, whole), is) = is ∙ append-nil old
-    by (key ∷ front, (rest, whole), is) = absurd cc
+    by (key ∷ prefix, (rest, whole), is) = absurd cc

@@ -5,11 +5,11 @@ use Rattle.std.proofs.lemmas.List.Concat.{flat_map-append}
 use Rattle.asm_image.specs.declared.method_row.MethodRow.{MethodRow}
 use Rattle.unit_builder.specs.declared.entry.MethodEntry.{MethodEntry}
 use Rattle.unit_builder.specs.declared.entry.Outcome.{Outcome}
-use Rattle.unit_verdicts.specs.Asked.{AsksFront}
+use Rattle.unit_verdicts.specs.Asked.{AsksPrefix}
 use Rattle.unit_verdicts.specs.VerdictCache.{CachedUnits}
 use Rattle.assembly_reports.specs.JudgedUnits.{asked_for, judged_keys, outcome_key, with_judged}
 use Rattle.assembly_reports.specs.InferredUnits.{entry_by}
-use Rattle.assembly_reports.proofs.Judging.{asked_more, front_later, front_of_first, judged_more}
+use Rattle.assembly_reports.proofs.Judging.{asked_more, prefix_later, prefix_of_first, judged_more}
 
 abbrev Keys : Type 0
 Keys = List (List ℕ)
@@ -31,13 +31,13 @@ keys_next of methods n method next =
     ∙ ap (λ (l : Keys). keys_of of (take n methods) ++ l) (append-nil (outcome_key (of method))))
 
 -- What was asked for some first methods is a prefix of what is asked for all.
-pub front_of_whole : (of : MethodRow → Outcome) (methods : List MethodRow) (n : ℕ) (cache : CachedUnits) (old new : Keys)
-    → AsksFront (asked_for cache (keys_of of (take n methods))) old new → AsksFront (asked_for cache (keys_of of methods)) old new
-front_of_whole of methods n cache old new front =
+pub prefix_of_whole : (of : MethodRow → Outcome) (methods : List MethodRow) (n : ℕ) (cache : CachedUnits) (old new : Keys)
+    → AsksPrefix (asked_for cache (keys_of of (take n methods))) old new → AsksPrefix (asked_for cache (keys_of of methods)) old new
+prefix_of_whole of methods n cache old new prefix =
     let first = keys_of of (take n methods) in
     let rest = keys_of of (drop n methods) in
     let all : first ++ rest ≡ keys_of of methods = sym (keys_behind of (take n methods) (drop n methods)) ∙ ap (keys_of of) (take-append-drop n methods) in
-    subst (λ (keys : Keys). AsksFront (asked_for cache keys) old new) all (front_of_first cache first rest old new front)
+    subst (λ (keys : Keys). AsksPrefix (asked_for cache keys) old new) all (prefix_of_first cache first rest old new prefix)
 
 -- What some first methods bring, and what the next one adds.
 module _ (of : MethodRow → Outcome) (methods : List MethodRow) (n : ℕ) (method : MethodRow) (cache now : CachedUnits) (next : take (n + 1) methods ≡ take n methods ++ method ∷ [])
@@ -57,9 +57,9 @@ module _ (of : MethodRow → Outcome) (methods : List MethodRow) (n : ℕ) (meth
   asked_next old mid new asked more =
       asked_more cache now first so_far key old mid new asked more ∙ ap (λ (keys : Keys). old ++ asked_for cache keys) (keys_next of methods n method next)
 
-  -- A front of what the next method asks for, after what those before it asked for.
-  pub front_at_next : (old mid new : Keys) → mid ≡ old ++ asked_for cache first → AsksFront (asked_for now key) mid new → AsksFront (asked_for cache (keys_of of methods)) old new
-  front_at_next old mid new asked front =
-      front_of_whole of methods (n + 1) cache old new
-      (subst (λ (keys : Keys). AsksFront (asked_for cache keys) old new) (keys_next of methods n method next)
-      (front_later cache now first so_far key old mid new asked front))
+  -- A prefix of what the next method asks for, after what those before it asked for.
+  pub prefix_at_next : (old mid new : Keys) → mid ≡ old ++ asked_for cache first → AsksPrefix (asked_for now key) mid new → AsksPrefix (asked_for cache (keys_of of methods)) old new
+  prefix_at_next old mid new asked prefix =
+      prefix_of_whole of methods (n + 1) cache old new
+      (subst (λ (keys : Keys). AsksPrefix (asked_for cache keys) old new) (keys_next of methods n method next)
+      (prefix_later cache now first so_far key old mid new asked prefix))

@@ -27,13 +27,13 @@ pub none_contained : {X : Type 0} (y : X) → Contains [] y → ⊥
 none_contained y (k, below, same) = omega (arith, below)
 
 -- A member of the first elements is one of all.
-pub in_front : {X : Type 0} (n : ℕ) (xs : List X) (x : X) → Contains (take n xs) x → Contains xs x
-in_front zero xs x has = absurd (none_contained x has)
-in_front (suc n) [] x has = absurd (none_contained x has)
-in_front (suc n) (first ∷ xs) x has =
+pub in_prefix : {X : Type 0} (n : ℕ) (xs : List X) (x : X) → Contains (take n xs) x → Contains xs x
+in_prefix zero xs x has = absurd (none_contained x has)
+in_prefix (suc n) [] x has = absurd (none_contained x has)
+in_prefix (suc n) (first ∷ xs) x has =
     elim (contains_first first x (take n xs) has) [
       | inl same ↦ is_first first x xs same
-      | inr later ↦ is_later first x xs (in_front n xs x later)
+      | inr later ↦ is_later first x xs (in_prefix n xs x later)
     ]
 
 -- An element of what a list is mapped to comes of an element of the list.

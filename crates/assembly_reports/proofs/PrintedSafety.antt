@@ -19,7 +19,7 @@ use Rattle.assembly_reports.proofs.FewMethods.{methods_are_few}
 use Rattle.assembly_reports.proofs.PrintedMethods.{IsSafeIn, among_rows, behind_digits, proved_tells, row_said, safe_by, same_said, same_text}
 use Rattle.assembly_reports.proofs.Members.{all_at, contains_behind, contains_first, contains_map, none_contained}
 use Rattle.assembly_reports.proofs.Reported.{entry_said, method_said, report_said}
-use Rattle.answer_lines.proofs.SingleLines.{summary_front, summary_said}
+use Rattle.answer_lines.proofs.SingleLines.{summary_prefix, summary_said}
 use Rattle.assembly_reports.proofs.ReportTexts.{all_behind, assembly_one_line, rows_one_line, summary_one_line}
 use Rattle.answer_lines.proofs.WholeLines.{IsOneLine}
 use Rattle.unit_verdicts.specs.Picks.{Manner, Pick}
@@ -52,7 +52,7 @@ report_one_line name manner asm of runnable = (
 -- The line of a method among those of a report is that of a row.
 row_of_report : (name : List ℕ) (manner : Manner) (asm : List ℕ) (of : MethodRow → Outcome) (token : ℕ) (method text : List ℕ) → Contains (report_said name manner (entries_with asm of)) (method_said token method text)
     → (row : ℕ) × Contains (range_with_len 1 (method_count (metadata asm))) row × (row_said manner.pick asm of row ≡ method_said token method text)
-unfolding report_said rows_of summary_said summary_front method_said
+unfolding report_said rows_of summary_said summary_prefix method_said
 row_of_report name manner asm of token method text has =
     let line = method_said token method text in
     let said = flat_map (entry_said manner) (entries_with asm of) in

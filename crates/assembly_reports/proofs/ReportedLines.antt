@@ -40,16 +40,16 @@ pub report_of : (name : List ℕ) (of : MethodRow → Outcome) (manner : Manner)
 unfolding report_text
 report_of name of manner found first lines all line last methods counts first_is lines_are all_are line_is last_is counted same shown =
     let entries = map (entry_by of) methods in
-    let front : joined first ≡ assembly_line name = ap joined first_is ∙ append-nil line.items ∙ line_is in
+    let prefix : joined first ≡ assembly_line name = ap joined first_is ∙ append-nil line.items ∙ line_is in
     let middle : joined lines ≡ assembly_line name ++ flat_map (entry_lines manner) entries =
-    lines_are ∙ rw front (ap (λ l. assembly_line name ++ l) (lines_of of manner methods found same shown)) in
+    lines_are ∙ rw prefix (ap (λ l. assembly_line name ++ l) (lines_of of manner methods found same shown)) in
     ap joined all_are ∙ flat_map-append (λ (l : Vec ℕ Global). l.items) lines (last ∷ []) ∙ ap (λ l. joined lines ++ l) (append-nil last.items ∙ last_is ∙ ap summary_line counted ∙ ap (λ f. summary_line (found_counts f)) same)
     ∙ ap (λ l. l ++ summary_line (all_counts manner.pick entries)) middle
 
 -- The lines of a unit's report: the first, those of its obligations, and the last.
-pub three_parts : (none first lines all : List (Vec ℕ Global)) (line last : Vec ℕ Global) (front middle back : List ℕ) → none ≡ [] → first ≡ none ++ line ∷ [] → line.items ≡ front
-    → joined lines ≡ joined first ++ middle → all ≡ lines ++ last ∷ [] → last.items ≡ back → joined all ≡ front ++ middle ++ back
-three_parts none first lines all line last front middle back none_is first_is line_is lines_are all_are last_is =
-    let begun : joined first ≡ front = ap joined (rw none_is at first_is) ∙ append-nil line.items ∙ line_is in
+pub three_parts : (none first lines all : List (Vec ℕ Global)) (line last : Vec ℕ Global) (prefix middle back : List ℕ) → none ≡ [] → first ≡ none ++ line ∷ [] → line.items ≡ prefix
+    → joined lines ≡ joined first ++ middle → all ≡ lines ++ last ∷ [] → last.items ≡ back → joined all ≡ prefix ++ middle ++ back
+three_parts none first lines all line last prefix middle back none_is first_is line_is lines_are all_are last_is =
+    let begun : joined first ≡ prefix = ap joined (rw none_is at first_is) ∙ append-nil line.items ∙ line_is in
     ap joined all_are ∙ flat_map-append (λ (l : Vec ℕ Global). l.items) lines (last ∷ []) ∙ ap (λ l. joined lines ++ l) (append-nil last.items ∙ last_is)
     ∙ ap (λ l. l ++ back) (lines_are ∙ ap (λ l. l ++ middle) begun)

@@ -1,14 +1,14 @@
--- The sections of a front of reports: each has lines of its own report alone.
+-- The sections of a prefix of reports: each has lines of its own report alone.
 use Rattle.std.proofs.Common.{◌≡◌, ℕ, zero, suc, ◌+◌, ◌==◌, not, Bool, true, false, cond, List, [], ◌∷◌, ◌++◌, take, Some, slice_get, slice_index_or, refl, sym, ap, subst, ◌∙◌, append_assoc, arith}
 use Rattle.std.specs.Prelude.{Contains}
 use Rattle.std.specs.List.{AllByRecursion, before_first, flat_map, prefix_len}
 use Rattle.std.proofs.lemmas.Bool.{ne_eqb}
-use Rattle.cc_base.specs.Sink.{IsFront}
+use Rattle.cc_base.specs.Sink.{IsPrefix}
 use Rattle.answer_lines.proofs.WholeLines.{IsOneLine, as_lines, is_later}
 use Rattle.assembly_reports.specs.Sections.{begins_section, lines_of, longer, sections_of}
-use Rattle.assembly_reports.proofs.Members.{in_front, none_contained}
+use Rattle.assembly_reports.proofs.Members.{in_prefix, none_contained}
 
--- ---- the lines of a front of whole lines
+-- ---- the lines of a prefix of whole lines
 
 -- They are the first of these lines.
 abbrev HasFirst : List ℕ → List (List ℕ) → Type 0
@@ -18,31 +18,31 @@ longer_first : (c : ℕ) (line : List ℕ) (lines : List (List ℕ)) (m : ℕ) �
 longer_first c line lines zero = (0, refl)
 longer_first c line lines (suc m) = (suc m, refl)
 
-front_of_none : (text : List ℕ) → IsFront text [] → lines_of text ≡ []
-front_of_none [] front = refl
-front_of_none (c ∷ text) (rest, is) = absurd cc
+prefix_of_none : (text : List ℕ) → IsPrefix text [] → lines_of text ≡ []
+prefix_of_none [] prefix = refl
+prefix_of_none (c ∷ text) (rest, is) = absurd cc
 
-front_of_more : (text : List ℕ) (lines : List (List ℕ))
-    → ((line : List ℕ) (others : List (List ℕ)) → IsOneLine line → AllByRecursion IsOneLine others → IsFront text (line ++ 10 ∷ as_lines others) → HasFirst text (line ∷ others))
-    → AllByRecursion IsOneLine lines → IsFront text (as_lines lines) → HasFirst text lines
-front_of_more text [] found all front = (0, front_of_none text front)
-front_of_more text (line ∷ lines) found all (rest, is) = found line lines all.0 all.1 (rest, sym (append_assoc line (10 ∷ []) (as_lines lines)) ∙ is)
+prefix_of_more : (text : List ℕ) (lines : List (List ℕ))
+    → ((line : List ℕ) (others : List (List ℕ)) → IsOneLine line → AllByRecursion IsOneLine others → IsPrefix text (line ++ 10 ∷ as_lines others) → HasFirst text (line ∷ others))
+    → AllByRecursion IsOneLine lines → IsPrefix text (as_lines lines) → HasFirst text lines
+prefix_of_more text [] found all prefix = (0, prefix_of_none text prefix)
+prefix_of_more text (line ∷ lines) found all (rest, is) = found line lines all.0 all.1 (rest, sym (append_assoc line (10 ∷ []) (as_lines lines)) ∙ is)
 
 -- Where the first of the lines was begun.
-front_of_line : (text line : List ℕ) (lines : List (List ℕ)) → IsOneLine line → AllByRecursion IsOneLine lines → IsFront text (line ++ 10 ∷ as_lines lines)
+prefix_of_line : (text line : List ℕ) (lines : List (List ℕ)) → IsOneLine line → AllByRecursion IsOneLine lines → IsPrefix text (line ++ 10 ∷ as_lines lines)
     → HasFirst text (line ∷ lines)
-front_of_line [] line lines one all front = (0, refl)
-front_of_line (c ∷ text) [] lines one all (rest, is) =
+prefix_of_line [] line lines one all prefix = (0, refl)
+prefix_of_line (c ∷ text) [] lines one all (rest, is) =
     let feed : 10 ≡ c = cc in
     let later : as_lines lines ≡ text ++ rest = cc in
-    let found = front_of_more text lines (λ line others one all front. front_of_line text line others one all front) all (rest, later) in (
+    let found = prefix_of_more text lines (λ line others one all prefix. prefix_of_line text line others one all prefix) all (rest, later) in (
       suc found.0,
       ap (λ (b : ℕ). cond (b == 10) ([] ∷ lines_of text) (longer b (lines_of text))) (sym feed) ∙ ap (λ (l : List (List ℕ)). [] ∷ l) found.1,
     )
-front_of_line (c ∷ text) (d ∷ line) lines one all (rest, is) =
+prefix_of_line (c ∷ text) (d ∷ line) lines one all (rest, is) =
     let same : d ≡ c = cc in
     let later : line ++ 10 ∷ as_lines lines ≡ text ++ rest = cc in
-    let found = front_of_line text line lines one.1 all (rest, later) in
+    let found = prefix_of_line text line lines one.1 all (rest, later) in
     let more = longer_first d line lines found.0 in
     let other : (d == 10) ≡ false = ne_eqb d 10 one.0 in (
       more.0,
@@ -50,8 +50,8 @@ front_of_line (c ∷ text) (d ∷ line) lines one all (rest, is) =
           ∙ ap (λ (feed : Bool). cond feed ([] ∷ lines_of text) (longer d (lines_of text))) other ∙ ap (longer d) found.1 ∙ more.1,
     )
 
-pub front_of_lines : (text : List ℕ) (lines : List (List ℕ)) → AllByRecursion IsOneLine lines → IsFront text (as_lines lines) → HasFirst text lines
-front_of_lines text lines all front = front_of_more text lines (λ line others one all front. front_of_line text line others one all front) all front
+pub prefix_of_lines : (text : List ℕ) (lines : List (List ℕ)) → AllByRecursion IsOneLine lines → IsPrefix text (as_lines lines) → HasFirst text lines
+prefix_of_lines text lines all prefix = prefix_of_more text lines (λ line others one all prefix. prefix_of_line text line others one all prefix) all prefix
 
 -- ---- the sections of the first of such lines
 
@@ -114,11 +114,11 @@ abbrev SectionHas : List (List ℕ) → ℕ → List ℕ → Type 0
 SectionHas lines k line = Contains (slice_index_or (sections_of lines) k []) line
 
 -- Where the lines of some items are sections, a line in section k of the first of these lines is one of item k.
-pub section_of_front : {X : Type 0} (said : X → List (List ℕ)) (items : List X) (m k : ℕ) (line : List ℕ) → AllByRecursion (λ item. IsSection (said item)) items
+pub section_of_prefix : {X : Type 0} (said : X → List (List ℕ)) (items : List X) (m k : ℕ) (line : List ℕ) → AllByRecursion (λ item. IsSection (said item)) items
     → SectionHas (take m (flat_map said items)) k line → IsKth said items k line
-section_of_front said [] zero k line all has = absurd (none_contained line has)
-section_of_front said [] (suc m) k line all has = absurd (none_contained line has)
-section_of_front {X} said (item ∷ items) m k line all has = by_lines (said item) refl all.0 m k has (λ n j. section_of_front said items n j line all.1)
+section_of_prefix said [] zero k line all has = absurd (none_contained line has)
+section_of_prefix said [] (suc m) k line all has = absurd (none_contained line has)
+section_of_prefix {X} said (item ∷ items) m k line all has = by_lines (said item) refl all.0 m k has (λ n j. section_of_prefix said items n j line all.1)
   where
     others : List (List ℕ)
     others = flat_map said items
@@ -128,7 +128,7 @@ section_of_front {X} said (item ∷ items) m k line all has = by_lines (said ite
         → ((n j : ℕ) → SectionHas (take n others) j line → IsKth said items j line) → IsKth said (item ∷ items) j line
     by_begins head lines n same inside zero has later =
         let up_to = up_to_next lines others n inside (all_begin said items all.1) in
-        let among : Contains lines line = in_front up_to.0 lines line (subst (λ (l : List (List ℕ)). Contains l line) up_to.1 has) in
+        let among : Contains lines line = in_prefix up_to.0 lines line (subst (λ (l : List (List ℕ)). Contains l line) up_to.1 has) in
         record { item = item; kth = refl; has = subst (λ (l : List (List ℕ)). Contains l line) (sym same) (is_later head line lines among) }
     by_begins head lines n same inside (suc j) has later =
         let after = after_lines lines others n inside in

@@ -4,7 +4,7 @@ use Rattle.std.specs.List.{before_first, starts_with}
 use Rattle.asm_image.specs.declared.method_row.MethodRow.{MethodRow}
 use Rattle.cc_base.specs.Digits.{hex}
 
--- A byte in front of lines makes the first of them longer.
+-- A byte before lines makes the first of them longer.
 abbrev pub longer : ℕ → List (List ℕ) → List (List ℕ)
 longer byte [] = []
 longer byte (line ∷ lines) = (byte ∷ line) ∷ lines

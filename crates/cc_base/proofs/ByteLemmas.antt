@@ -104,8 +104,8 @@ pub bytes_back-take : (n : ℕ) (bytes : List ℕ) → n ≤ length bytes → Is
 bytes_back-take n bytes h isBytes =
     let len : length (take n bytes) ≡ n = length-take-le n bytes h in
     let whole = bytes_back (take n bytes) (IsBytes-take n bytes isBytes) in
-    let front : little_number n (take n bytes) ≡ little_number n bytes = little_from-take 0 n n bytes (omega arith) in
-    ap (λ (x : ℕ). little_bytes n x) (sym front)
+    let prefix : little_number n (take n bytes) ≡ little_number n bytes = little_from-take 0 n n bytes (omega arith) in
+    ap (λ (x : ℕ). little_bytes n x) (sym prefix)
     ∙ ap (λ (k : ℕ). little_bytes k (little_number k (take n bytes))) (sym len)
     ∙ whole
 

@@ -106,8 +106,8 @@ pub compressed_found : (bytes : List ℕ) (result : Result Compressed Compressed
     → IfOk result (λ found. SpellsNumber found.number (take found.width bytes))
 compressed_found bytes (Ok found) fits e =
     let s = compressed_spelled bytes found fits (sym e) in
-    let front : take found.width bytes ≡ s.spelling = ap₂ (λ (n : ℕ) (xs : List ℕ). take n xs) s.wide s.parts ∙ take-append_seam s.spelling s.rest in
-    subst (λ (spelling : List ℕ). SpellsNumber found.number spelling) (sym front) s.spells
+    let prefix : take found.width bytes ≡ s.spelling = ap₂ (λ (n : ℕ) (xs : List ℕ). take n xs) s.wide s.parts ∙ take-append_seam s.spelling s.rest in
+    subst (λ (spelling : List ℕ). SpellsNumber found.number spelling) (sym prefix) s.spells
 compressed_found bytes (Err fault) fits e = tt
 
 two_read : (n : ℕ) (rest : List ℕ) → n < 2 ^ 14 → compressed (big_bytes 2 (0x8000 + n) ++ rest) ≡ Ok (record { number = n; width = 2 })
@@ -126,7 +126,7 @@ four_read n rest lt =
     from_four ((0xC000_0000 + n) / 0x100_0000 % 256) ((0xC000_0000 + n) / 0x1_0000 % 256 ∷ (0xC000_0000 + n) / 256 % 256 ∷ (0xC000_0000 + n) % 256 ∷ rest) (omega arith) (omega arith)
     ∙ low_bits_are 29 4 (big_bytes 4 (0xC000_0000 + n) ++ rest) n (omega arith) number
 
--- A number whose spelling stands at the front is read.
+-- A number whose spelling stands at the start is read.
 pub compressed_only : (n : ℕ) (spelling rest : List ℕ) → SpellsNumber n spelling → compressed (spelling ++ rest) ≡ Ok (record { number = n; width = length spelling })
 compressed_only n spelling rest (inl one) = rw one.1 (from_one n rest one.0)
 compressed_only n spelling rest (inr (inl two)) = rw two.1 (two_read n rest two.0)

@@ -12,7 +12,7 @@ length-hex (suc digits) n =
     let pushed = length_push (hex digits (n / 16)) (hex_digit (n % 16)) in
     omega (arith, e, pushed)
 
--- One more digit in front of those that are written.
+-- One more digit before those that are written.
 hex_more-suc : (index rest digit : ℕ) (text : List ℕ) → index < length text → digit ≡ hex_digit (rest % 16)
     → hex index (rest / 16) ++ drop index (set text index digit) ≡ hex (suc index) rest ++ drop (suc index) text
 unfolding hex

@@ -157,7 +157,7 @@ Replaces-along old name after files bytes told e d r = record {
   others = λ other ne. ap (λ (fs : List NamedFile). held_in fs other) e ∙ r.others other ne;
 }
 
--- A front of a list, cut where the list or the limit ends.
+-- A prefix of a list, cut where the list or the limit ends.
 pub take_cut : (bytes copy : List ℕ) (limit end : ℕ) → end ≡ min (length bytes) limit → copy ≡ take end bytes → copy ≡ take limit bytes
 take_cut bytes copy limit end cut is =
     is ∙ ap (λ (n : ℕ). take n bytes) (cut ∙ min_comm (length bytes) limit) ∙ take_min limit bytes

@@ -11,7 +11,7 @@ low_bits bits width bytes =
     if nat_lt (length bytes) width then Err Cut
     else Ok (record { number = big_number width bytes % 2 ^ bits; width = width })
 
--- The number at the front: 0xxxxxxx stands alone, 10xxxxxx begins two bytes, and 110xxxxx begins four.
+-- The number at the start: 0xxxxxxx stands alone, 10xxxxxx begins two bytes, and 110xxxxx begins four.
 unfoldable pub compressed : List ℕ → Result Compressed CompressedFault
 compressed [] = Err Cut
 compressed (first ∷ rest) =

@@ -7,12 +7,12 @@ abbrev pub appended : Option (List ℕ) → List ℕ → Option (List ℕ)
 appended told bytes = option_map (λ written. written ++ bytes) told
 
 -- The first list is a prefix of the second.
-abbrev pub IsFront : List ℕ → List ℕ → Type 0
-IsFront front whole = (rest : List ℕ) × (whole ≡ front ++ rest)
+abbrev pub IsPrefix : List ℕ → List ℕ → Type 0
+IsPrefix prefix whole = (rest : List ℕ) × (whole ≡ prefix ++ rest)
 
--- A front of the bytes was appended.
-abbrev pub AppendsFront : Option (List ℕ) → Option (List ℕ) → List ℕ → Type 0
-AppendsFront old new bytes = (front : List ℕ) × IsFront front bytes × (new ≡ appended old front)
+-- A prefix of the bytes was appended.
+abbrev pub AppendsPrefix : Option (List ℕ) → Option (List ℕ) → List ℕ → Type 0
+AppendsPrefix old new bytes = (prefix : List ℕ) × IsPrefix prefix bytes × (new ≡ appended old prefix)
 
 -- What is told of the count of puts after so many more.
 abbrev pub counted : ℕ → Option ℕ → Option ℕ

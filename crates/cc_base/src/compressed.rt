@@ -45,9 +45,9 @@ fn four_bytes(bytes: &[u8]) -> Result<Compressed, CompressedFault>
     Ok(Compressed { number, width: 4 })
 }
 
-/// The compressed number at the front, without its laws.
+/// The compressed number at the start, without its laws.
 #[tactic(auto, unfolding(crate::specs::Compressed::compressed))]
-fn front_number(bytes: &[u8]) -> Result<Compressed, CompressedFault>
+fn prefix_number(bytes: &[u8]) -> Result<Compressed, CompressedFault>
     ensures exact { result ≡ compressed bytes.now }
     ensures some { IfOk result (λ found. 1 ≤ found.width) }
     ensures few { IfOk result (λ found. found.width ≤ 4) }
@@ -66,14 +66,14 @@ fn front_number(bytes: &[u8]) -> Result<Compressed, CompressedFault>
     }
 }
 
-/// The compressed number at the front of some bytes (II.23.2). It may stand in more bytes than it
+/// The compressed number at the start of some bytes (II.23.2). It may stand in more bytes than it
 /// needs.
 pub fn compressed_number(bytes: &[u8]) -> Result<Compressed, CompressedFault>
     // The number, or the fault.
     ensures exact { result ≡ compressed bytes.now }
-    // A spelling of the number stands at the front.
+    // A spelling of the number stands at the start.
     ensures found { IfOk result (λ found. SpellsNumber found.number (take found.width bytes.now)) }
-    // A number whose spelling stands at the front is read.
+    // A number whose spelling stands at the start is read.
     ensures only { (n : ℕ) (spelling rest : List ℕ) → SpellsNumber n spelling → bytes.now ≡ spelling ++ rest →
         result ≡ Ok (record { number = n; width = length spelling }) }
     ensures some { IfOk result (λ found. 1 ≤ found.width) }
@@ -82,5 +82,5 @@ pub fn compressed_number(bytes: &[u8]) -> Result<Compressed, CompressedFault>
     // A first byte that begins no number is there.
     ensures begun { IsErrOf result CompressedFault.Form → 1 ≤ length bytes.now }
 {
-    front_number(bytes)
+    prefix_number(bytes)
 }

@@ -2,7 +2,7 @@
 
 ghost use Rattle.std.specs.Prelude.{◌≡◌, ◌++◌, OnOk, OnErr};
 ghost use Rattle.cc_base.specs.Escapes.{is_plain, escaped_byte, escaped};
-ghost use Rattle.cc_base.specs.Sink.{IsFront};
+ghost use Rattle.cc_base.specs.Sink.{IsPrefix};
 
 use crate::digits::put_hex;
 use std::alloc::{AllocError, Global};
@@ -17,7 +17,7 @@ fn is_plain(byte: u8) -> bool
 /// Appends a byte of a name. An error may leave a part of its escape.
 fn append_escaped_byte(alloc: Global, line: &mut Vec<u8>, byte: u8) -> Result<(), AllocError>
     ensures ok { OnOk result (line.new.items ≡ line.old.items ++ escaped_byte byte) }
-    ensures front { IsFront line.old.items line.new.items }
+    ensures prefix { IsPrefix line.old.items line.new.items }
 {
     if is_plain(byte) {
         line.push(byte)?;
@@ -30,7 +30,7 @@ fn append_escaped_byte(alloc: Global, line: &mut Vec<u8>, byte: u8) -> Result<()
 /// Appends the bytes of a name. An error may leave some of them.
 fn append_escaped_bytes(alloc: Global, line: &mut Vec<u8>, name: &[u8]) -> Result<(), AllocError>
     ensures ok { OnOk result (line.new.items ≡ line.old.items ++ escaped name.now) }
-    ensures front { IsFront line.old.items line.new.items }
+    ensures prefix { IsPrefix line.old.items line.new.items }
 {
     for byte in name {
         append_escaped_byte(alloc, line, *byte)?;

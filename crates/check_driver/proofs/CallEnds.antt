@@ -22,7 +22,7 @@ use Rattle.unit_verdicts.proofs.Honest.{honest_file}
 use Rattle.check_driver.specs.Asked.{check_keys, linked_keys}
 use Rattle.check_driver.specs.CacheMet.{CallMet, IsCacheUnder, IsMet, cache_entries, cache_refusal, command_cache, command_proof, entries_unless, met_of, without_cache}
 use Rattle.check_driver.specs.Expected.{check_answer, check_manner, command_answer, expected, files_answer, missing_or}
-use Rattle.check_driver.specs.FilesLeft.{AnswerLeaves, FrontIsLeft, LeavesFiles, LeftFile, are_accepted, bytes_left, command_left, left_by, left_unless, left_where}
+use Rattle.check_driver.specs.FilesLeft.{AnswerLeaves, PrefixIsLeft, LeavesFiles, LeftFile, are_accepted, bytes_left, command_left, left_by, left_unless, left_where}
 use Rattle.check_driver.specs.HonestCaches.{AreAlike, AsksWithoutCache, HoldsHonest, HonestWhereHonest, IsCacheHonest, WritesAs}
 use Rattle.check_driver.specs.Known.{AnswerKnows, FilesKnown, KnowsCheck, WordsKnow, known_unless}
 use Rattle.check_driver.specs.Met.{AreUnder, contents, first_missing}
@@ -38,16 +38,16 @@ leaves_files left text (Err interrupts.CannotWrite) out old new leaves = record 
 leaves_files left text (Err interrupts.NoMemory) out old new leaves = record { whole = λ a b c. absurd (c refl); either = leaves.either }
 
 -- Where nothing is to be left, the files are as before.
-front_of_none : (old new : Option Held) → FrontIsLeft [] old new → new ≡ old
-front_of_none old new ([], (rest, whole), same) = same
-front_of_none old new (file ∷ front, (rest, whole), left) = absurd cc
+prefix_of_none : (old new : Option Held) → PrefixIsLeft [] old new → new ≡ old
+prefix_of_none old new ([], (rest, whole), same) = same
+prefix_of_none old new (file ∷ prefix, (rest, whole), left) = absurd cc
 
 same_where_none : (left : List LeftFile) (text : List ℕ) (r : Result ℕ Interrupt) (out : Change) (old new : Option Held) → left ≡ [] → AnswerLeaves left text r out old new → new ≡ old
 same_where_none left text r out old new none leaves = by leaves.either
   where
-    by : (new ≡ old) ⊎ (FrontIsLeft left old new × WritesAll out text) → new ≡ old
+    by : (new ≡ old) ⊎ (PrefixIsLeft left old new × WritesAll out text) → new ≡ old
     by (inl same) = same
-    by (inr (front, all)) = front_of_none old new (subst (λ (l : List LeftFile). FrontIsLeft l old new) none front)
+    by (inr (prefix, all)) = prefix_of_none old new (subst (λ (l : List LeftFile). PrefixIsLeft l old new) none prefix)
 
 none_where : (accepted : Bool) (proof cache : Option (List ℕ)) (held : Source) (keys : List (List ℕ)) → proof ≡ None → cache ≡ None → left_where accepted proof cache held keys ≡ []
 none_where false proof cache held keys no_proof no_cache = refl

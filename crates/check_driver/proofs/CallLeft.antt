@@ -2,7 +2,7 @@
 use Rattle.std.proofs.Common.{◌≡◌, ◌≢◌, ◌⊎◌, ℕ, List, Option, Result, Ok, Err, refl, subst, inl, inr, arith}
 use Rattle.std.specs.Prelude.{IfOk}
 use Rattle.cc_base.specs.Counts.{Kept, Rose}
-use Rattle.cc_base.specs.Sink.{AppendsFront}
+use Rattle.cc_base.specs.Sink.{AppendsPrefix}
 use Rattle.answer_lines.specs.Answers.{Answer}
 use Rattle.answer_lines.specs.Outcome.{GivesOrFails, Leaves, last_line, status_of}
 use Rattle.answer_lines.specs.Writing.{Change}
@@ -43,8 +43,8 @@ module _ (x : Answer) (names : List (List ℕ)) (failed unreplaced : Type 0) (ou
           err_all = tt;
           out_puts = tt;
           err_puts = tt;
-          out_front = g.out_front;
-          err_front = g.err_front;
+          out_prefix = g.out_prefix;
+          err_prefix = g.err_prefix;
           cause = g.cause;
           out_kept = g.out_kept;
           err_kept = g.err_kept;
@@ -62,7 +62,7 @@ never_answered (Err interrupts.NoMemory) ended read written memory = memory refl
 
 -- The status and the last line end the call.
 pub leaves_plainly : (x : Answer) (names : List (List ℕ)) (failed unreplaced : Type 0) (r : Result ℕ Interrupt) (out : Change) (old mid new : Option (List ℕ)) (p0 p1 p2 : Option ℕ) (g0 g1 g2 : ℕ)
-    → AnswersPlainly r x → GivesOrFails x names failed unreplaced r out (change old mid p0 p1 g0 g1) → AppendsFront mid new (last_line r)
+    → AnswersPlainly r x → GivesOrFails x names failed unreplaced r out (change old mid p0 p1 g0 g1) → AppendsPrefix mid new (last_line r)
     → IfOk r (λ _. p2 ≡ p1) → Leaves x names failed (status_of r) out (change old new p0 p2 g0 g2)
 leaves_plainly x names failed unreplaced r out old mid new p0 p1 p2 g0 g1 g2 plainly gives tried kept =
     elim (plain_or_ended x names failed unreplaced out (change old mid p0 p1 g0 g1) r plainly gives) [
@@ -72,7 +72,7 @@ leaves_plainly x names failed unreplaced r out old mid new p0 p1 p2 g0 g1 g2 pla
           record {
             answered = λ a b c. absurd (never_answered r ended.1 a b c);
             lines = its.lines;
-            front = its.front;
+            prefix = its.prefix;
             unread = its.unread;
             unread_out = its.unread_out;
             unread_lines = its.unread_lines;

@@ -17,7 +17,7 @@ use Rattle.unit_verdicts.specs.declared.source.Source.TheVariants.{Cache as OfCa
 use Rattle.check_driver.specs.Asked.{begun_units}
 use Rattle.assembly_reports.specs.JudgedUnits.{asked_for, with_judged}
 use Rattle.check_driver.specs.CacheMet.{cache_entries, cache_refusal}
-use Rattle.check_driver.specs.FilesLeft.{AnswerLeaves, AreLeft, FrontIsLeft, GivesOrUnreplaced, LeftFile, left_where}
+use Rattle.check_driver.specs.FilesLeft.{AnswerLeaves, AreLeft, PrefixIsLeft, GivesOrUnreplaced, LeftFile, left_where}
 use Rattle.check_driver.specs.HonestCaches.{HonestWhereHonest}
 use Rattle.check_driver.proofs.CheckParts.{leaves_ended, leaves_whole}
 
@@ -76,8 +76,8 @@ module _ (check : CheckWords) (proof name met : Option (List ℕ)) (reports : An
         ap (λ (c : CachedUnits). left_where (nat_le status 1) proof name c.held c.keys) units_are
         ∙ ap (λ (all : Bool). left_where all proof name (OfCache (cache_entries met)) (distinct keys)) (ap (λ (n : ℕ). nat_le n 1) is ∙ few)
 
-    pub left_or_not : (i : Interrupt) (out : Change) (old new : Option Held) → WritesAll out reports.out → FrontIsLeft own old new → AnswerLeaves left answer.out (Err i) out old new
-    left_or_not i out old new all front = leaves_ended left own answer.out i out old new own_is all front
+    pub left_or_not : (i : Interrupt) (out : Change) (old new : Option Held) → WritesAll out reports.out → PrefixIsLeft own old new → AnswerLeaves left answer.out (Err i) out old new
+    left_or_not i out old new all prefix = leaves_ended left own answer.out i out old new own_is all prefix
 
     pub left_at_last : (out : Change) (old new : Option Held) → WritesAll out reports.out → AreLeft own old new → AnswerLeaves left answer.out (Ok status) out old new
     left_at_last out old new all files = leaves_whole left own answer.out status out old new own_is all files

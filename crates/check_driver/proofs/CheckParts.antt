@@ -8,7 +8,7 @@ use Rattle.asm_image.specs.declared.fault.AsmFault.{AsmFault}
 use Rattle.cc_base.specs.Counts.{Kept, Rose}
 use Rattle.cc_base.specs.Files.{Held}
 use Rattle.cc_base.proofs.CountLemmas.{Kept-Rose, Kept-refl}
-use Rattle.cc_base.proofs.SinkLemmas.{AppendsFront-none}
+use Rattle.cc_base.proofs.SinkLemmas.{AppendsPrefix-none}
 use Rattle.answer_lines.specs.Answers.{Answer}
 use Rattle.answer_lines.specs.Outcome.{Gives, WritesAll}
 use Rattle.answer_lines.specs.Writing.{Change, Writes}
@@ -31,7 +31,7 @@ use Rattle.assembly_reports.specs.JudgedUnits.{asked_for, with_judged}
 use Rattle.check_driver.specs.CacheMet.{cache_entries, cache_refusal, command_cache, command_proof}
 use Rattle.assembly_reports.specs.CheckText.{all_methods_proved}
 use Rattle.check_driver.specs.Expected.{bytes_answer, check_answer, check_manner, checked_before}
-use Rattle.check_driver.specs.FilesLeft.{AnswerLeaves, AreLeft, FrontIsLeft, GivesOrUnreplaced, IfEither, IfNamed, LeftFile, are_accepted, bytes_left, check_left, left_where}
+use Rattle.check_driver.specs.FilesLeft.{AnswerLeaves, AreLeft, PrefixIsLeft, GivesOrUnreplaced, IfEither, IfNamed, LeftFile, are_accepted, bytes_left, check_left, left_where}
 use Rattle.check_driver.specs.HonestCaches.{HonestWhereHonest}
 use Rattle.check_driver.specs.Known.{AreAllRunnable, KnowsCheck}
 use Rattle.check_driver.specs.Met.{bytes_read}
@@ -95,9 +95,9 @@ leaves_none text (Err i) out old new same = record { whole = tt; either = inl sa
 
 -- All was written, and then the first of what was to be left was left.
 pub leaves_ended : (left other : List LeftFile) (text : List ℕ) (i : Interrupt) (out : Change) (old new : Option Held) → other ≡ left → WritesAll out text
-    → FrontIsLeft other old new → AnswerLeaves left text (Err i) out old new
+    → PrefixIsLeft other old new → AnswerLeaves left text (Err i) out old new
 leaves_ended left other text i out old new same all is =
-    record { whole = tt; either = inr (subst (λ (files : List LeftFile). FrontIsLeft files old new) same is, all) }
+    record { whole = tt; either = inr (subst (λ (files : List LeftFile). PrefixIsLeft files old new) same is, all) }
 
 pub leaves_whole : (left other : List LeftFile) (text : List ℕ) (status : ℕ) (out : Change) (old new : Option Held) → other ≡ left → WritesAll out text
     → AreLeft other old new → AnswerLeaves left text (Ok status) out old new
@@ -216,7 +216,7 @@ module _ (check : CheckWords) (words : List (List ℕ)) (met : Option (List ℕ)
     own_is : own ≡ left
     own_is = left_is infer words check met manner names files status cache long is units_are
 
-    pub left_or_not : (i : Interrupt) (out : Change) (old new : Option Held) → WritesAll out reports.out → FrontIsLeft own old new → AnswerLeaves left answer.out (Err i) out old new
+    pub left_or_not : (i : Interrupt) (out : Change) (old new : Option Held) → WritesAll out reports.out → PrefixIsLeft own old new → AnswerLeaves left answer.out (Err i) out old new
     left_or_not i out old new all is = leaves_ended left own answer.out i out old new own_is all is
 
     pub left_at_last : (out : Change) (old new : Option Held) → WritesAll out reports.out → AreLeft own old new → AnswerLeaves left answer.out (Ok status) out old new
@@ -238,4 +238,4 @@ module _ (check : CheckWords) (words : List (List ℕ)) (met : Option (List ℕ)
 
 -- Memory ran out before anything was written.
 pub writes_no_memory : {X : Type 0} (o : Option (List ℕ)) (p : Option ℕ) (f : ℕ) (text : List ℕ) → Writes {X = X} (Err interrupts.NoMemory) (change o o p p f f) text
-writes_no_memory o p f text = record { whole = tt; puts = tt; front = AppendsFront-none o o text refl; cause = λ is. absurd cc; kept = Kept-refl f }
+writes_no_memory o p f text = record { whole = tt; puts = tt; prefix = AppendsPrefix-none o o text refl; cause = λ is. absurd cc; kept = Kept-refl f }

@@ -3,7 +3,7 @@ use Rattle.std.proofs.Common.{◌≡◌, ◌≢◌, ◌⊎◌, ℕ, List, [], �
 use Rattle.std.specs.Prelude.{IfSome, OnErr}
 use Rattle.std.specs.List.{AllByRecursion}
 use Rattle.cc_base.specs.Files.{Held, ToldReplaced}
-use Rattle.check_driver.specs.FilesLeft.{AreLeft, FrontIsLeft, LeftFile, named_file}
+use Rattle.check_driver.specs.FilesLeft.{AreLeft, PrefixIsLeft, LeftFile, named_file}
 use Rattle.check_driver.specs.HonestCaches.{HonestWhereHonest, KeepsHonest}
 use Rattle.result_cache.specs.Entries.{Entry}
 use Rattle.unit_verdicts.specs.CacheFile.{AreHonest, IsHonestFile}
@@ -11,34 +11,34 @@ use Rattle.unit_verdicts.specs.CacheFile.{AreHonest, IsHonestFile}
 -- ---- one after another
 
 -- None was left yet.
-pub none_left : (left : List LeftFile) (old new : Option Held) → new ≡ old → FrontIsLeft left old new
+pub none_left : (left : List LeftFile) (old new : Option Held) → new ≡ old → PrefixIsLeft left old new
 none_left left old new same = ([], (left, refl), same)
 
-pub all_left : (left : List LeftFile) (old new : Option Held) → AreLeft left old new → FrontIsLeft left old new
+pub all_left : (left : List LeftFile) (old new : Option Held) → AreLeft left old new → PrefixIsLeft left old new
 all_left left old new is = (left, ([], sym (append-nil left)), is)
 
 pub left_then : (a b : List LeftFile) (old mid new : Option Held) → AreLeft a old mid → AreLeft b mid new → AreLeft (a ++ b) old new
 left_then [] b old mid new first later = subst (λ (m : Option Held). AreLeft b m new) first later
 left_then (one ∷ a) b old mid new (next, put, others) later = (next, put, left_then a b next mid new others later)
 
-pub front_first : (a b : List LeftFile) (old new : Option Held) → FrontIsLeft a old new → FrontIsLeft (a ++ b) old new
-front_first a b old new (front, (rest, is), left) = (front, (rest ++ b, ap (λ (l : List LeftFile). l ++ b) is ∙ append_assoc front rest b), left)
+pub prefix_first : (a b : List LeftFile) (old new : Option Held) → PrefixIsLeft a old new → PrefixIsLeft (a ++ b) old new
+prefix_first a b old new (prefix, (rest, is), left) = (prefix, (rest ++ b, ap (λ (l : List LeftFile). l ++ b) is ∙ append_assoc prefix rest b), left)
 
-pub front_then : (a b : List LeftFile) (old mid new : Option Held) → AreLeft a old mid → FrontIsLeft b mid new → FrontIsLeft (a ++ b) old new
-front_then a b old mid new first (front, (rest, is), left) =
-    (a ++ front, (rest, ap (λ (l : List LeftFile). a ++ l) is ∙ sym (append_assoc a front rest)), left_then a front old mid new first left)
+pub prefix_then : (a b : List LeftFile) (old mid new : Option Held) → AreLeft a old mid → PrefixIsLeft b mid new → PrefixIsLeft (a ++ b) old new
+prefix_then a b old mid new first (prefix, (rest, is), left) =
+    (a ++ prefix, (rest, ap (λ (l : List LeftFile). a ++ l) is ∙ sym (append_assoc a prefix rest)), left_then a prefix old mid new first left)
 
 -- So where what left the others was stopped.
-pub front_where : {X E : Type 0} (r : Result X E) (a b : List LeftFile) (old mid new : Option Held) → AreLeft a old mid → OnErr r (FrontIsLeft b mid new) → OnErr r (FrontIsLeft (a ++ b) old new)
-front_where (Ok x) a b old mid new first front = tt
-front_where (Err e) a b old mid new first front = front_then a b old mid new first front
+pub prefix_where : {X E : Type 0} (r : Result X E) (a b : List LeftFile) (old mid new : Option Held) → AreLeft a old mid → OnErr r (PrefixIsLeft b mid new) → OnErr r (PrefixIsLeft (a ++ b) old new)
+prefix_where (Ok x) a b old mid new first prefix = tt
+prefix_where (Err e) a b old mid new first prefix = prefix_then a b old mid new first prefix
 
 -- ---- one file
 
 pub one_left : (name bytes : List ℕ) (old new : Option Held) → ToldReplaced old new name bytes → AreLeft (named_file (Some name) bytes) old new
 one_left name bytes old new put = (new, put, refl)
 
-pub one_or_none : (name bytes : List ℕ) (old new : Option Held) → (new ≡ old) ⊎ ToldReplaced old new name bytes → FrontIsLeft (named_file (Some name) bytes) old new
+pub one_or_none : (name bytes : List ℕ) (old new : Option Held) → (new ≡ old) ⊎ ToldReplaced old new name bytes → PrefixIsLeft (named_file (Some name) bytes) old new
 one_or_none name bytes old new (inl same) = none_left (named_file (Some name) bytes) old new same
 one_or_none name bytes old new (inr put) = all_left (named_file (Some name) bytes) old new (one_left name bytes old new put)
 
@@ -65,15 +65,15 @@ others_kept name (one ∷ left) held after new others (None, put, later) now = a
 others_kept name (one ∷ left) held after new others (Some mid, put, later) now =
     others_kept name left mid after new others.1 later now ∙ put.others name others.0
 
--- So they have where a front of these was left.
-first_others : (name : List ℕ) (front rest : List LeftFile) → AreOthers name (front ++ rest) → AreOthers name front
+-- So they have where a prefix of these was left.
+first_others : (name : List ℕ) (prefix rest : List LeftFile) → AreOthers name (prefix ++ rest) → AreOthers name prefix
 first_others name [] rest others = tt
-first_others name (one ∷ front) rest others = (others.0, first_others name front rest others.1)
+first_others name (one ∷ prefix) rest others = (others.0, first_others name prefix rest others.1)
 
-pub front_kept : (name : List ℕ) (left : List LeftFile) (held after : Held) (new : Option Held) → AreOthers name left → FrontIsLeft left (Some held) new → new ≡ Some after
+pub prefix_kept : (name : List ℕ) (left : List LeftFile) (held after : Held) (new : Option Held) → AreOthers name left → PrefixIsLeft left (Some held) new → new ≡ Some after
     → after name ≡ held name
-front_kept name left held after new others (front, (rest, is), its) now =
-    others_kept name front held after new (first_others name front rest (subst (AreOthers name) is others)) its now
+prefix_kept name left held after new others (prefix, (rest, is), its) now =
+    others_kept name prefix held after new (first_others name prefix rest (subst (AreOthers name) is others)) its now
 
 -- A file of another name, if it has one.
 pub named_other : (name : List ℕ) (own : Option (List ℕ)) (bytes : List ℕ) → own ≢ Some name → AreOthers name (named_file own bytes)
@@ -85,9 +85,9 @@ named_other name (Some own) bytes other = (λ same. other (ap (λ (n : List ℕ)
 told_left : (left : List LeftFile) (old new : Option Held) (held : Held) → old ≡ Some held → AreLeft left old new → AreLeft left (Some held) new
 told_left left old new held told is = subst (λ (t : Option Held). AreLeft left t new) told is
 
-front_keeps_honest : (name : List ℕ) (left : List LeftFile) (old new : Option Held) → AreOthers name left → FrontIsLeft left old new → KeepsHonest name old new
-front_keeps_honest name left old new others is = λ held after told now.
-    inl (front_kept name left held after new others (subst (λ (t : Option Held). FrontIsLeft left t new) told is) now)
+prefix_keeps_honest : (name : List ℕ) (left : List LeftFile) (old new : Option Held) → AreOthers name left → PrefixIsLeft left old new → KeepsHonest name old new
+prefix_keeps_honest name left old new others is = λ held after told now.
+    inl (prefix_kept name left held after new others (subst (λ (t : Option Held). PrefixIsLeft left t new) told is) now)
 
 then_keeps_honest : (name : List ℕ) (left : List LeftFile) (old mid new : Option Held) → AreOthers name left → AreLeft left old mid → KeepsHonest name mid new
     → KeepsHonest name old new
@@ -100,11 +100,11 @@ then_keeps_honest name left old mid new others is keeps = λ held after told now
     ]
 
 -- The proof file was not left, or only that.
-pub honest_at_proof : (cache proof : Option (List ℕ)) (bytes : List ℕ) (entries : List Entry) (old new : Option Held) → FrontIsLeft (named_file proof bytes) old new
+pub honest_at_proof : (cache proof : Option (List ℕ)) (bytes : List ℕ) (entries : List Entry) (old new : Option Held) → PrefixIsLeft (named_file proof bytes) old new
     → HonestWhereHonest cache proof entries old new
 honest_at_proof None proof bytes entries old new left = tt
 honest_at_proof (Some name) proof bytes entries old new left = λ honest differs.
-    front_keeps_honest name (named_file proof bytes) old new (named_other name proof bytes differs) left
+    prefix_keeps_honest name (named_file proof bytes) old new (named_other name proof bytes differs) left
 
 pub honest_at_cache : (cache proof : Option (List ℕ)) (bytes : List ℕ) (entries : List Entry) (old mid new : Option Held) → AreLeft (named_file proof bytes) old mid
     → IfSome cache (λ name. AreHonest entries → KeepsHonest name mid new) → HonestWhereHonest cache proof entries old new
@@ -124,4 +124,4 @@ keeps_where name bytes old new honest (inr put) = λ held after told now.
 pub keeps_same : (name : List ℕ) (old new : Option Held) → new ≡ old → KeepsHonest name old new
 keeps_same name old new same = λ held after told now. inl (ap (λ (h : Held). h name) (some_is after held (sym now ∙ same ∙ told)))
 
-pub ruleset left = (none_left, one_left, one_or_none, left_then, front_first, front_then, honest_at_proof, honest_at_cache, keeps_where, keeps_same)
+pub ruleset left = (none_left, one_left, one_or_none, left_then, prefix_first, prefix_then, honest_at_proof, honest_at_cache, keeps_where, keeps_same)

@@ -3,9 +3,9 @@ use Rattle.std.proofs.Common.{◌≡◌, ℕ, zero, suc, ◌+◌, ◌<◌, ◌�
 use Rattle.std.specs.Prelude.{IfOk}
 use Rattle.std.specs.List.{AllByRecursion, flat_map}
 use Rattle.std.proofs.lemmas.List.{get_or-map}
-use Rattle.cc_base.specs.Sink.{AppendsFront, appended, counted}
+use Rattle.cc_base.specs.Sink.{AppendsPrefix, appended, counted}
 use Rattle.cc_base.proofs.CountLemmas.{Kept-Rose, Kept-refl, Kept-trans}
-use Rattle.cc_base.proofs.SinkLemmas.{AppendsFront-after, AppendsFront-more, AppendsFront-none, appended-appended, appended-nil}
+use Rattle.cc_base.proofs.SinkLemmas.{AppendsPrefix-after, AppendsPrefix-more, AppendsPrefix-none, appended-appended, appended-nil}
 use Rattle.answer_lines.specs.LineCounts.{line_count}
 use Rattle.answer_lines.specs.Outcome.{Gives}
 use Rattle.answer_lines.specs.Writing.{Change, Writes}
@@ -39,14 +39,14 @@ use Rattle.check_driver.proofs.SeveralFiles.{cannot_write, parts_of, rest_of}
 -- ---- what is written
 
 pub writes_nothing : {X : Type 0} (x : X) (o : Option (List ℕ)) (p : Option ℕ) (f : ℕ) → Writes (Ok x) (change o o p p f f) []
-writes_nothing x o p f = record { whole = sym (appended-nil o); puts = puts_none p; front = tt; cause = λ is. absurd cc; kept = Kept-refl f }
+writes_nothing x o p f = record { whole = sym (appended-nil o); puts = puts_none p; prefix = tt; cause = λ is. absurd cc; kept = Kept-refl f }
 
 -- The first text was interrupted.
 pub writes_stop : {X Y : Type 0} (i : Interrupt) (sink : Change) (text more : List ℕ) → Writes {X = X} (Err i) sink text → Writes {X = Y} (Err i) sink (text ++ more)
 writes_stop {X} {Y} i sink text more w = record {
   whole = tt;
   puts = tt;
-  front = AppendsFront-more sink.old sink.new text more w.front;
+  prefix = AppendsPrefix-more sink.old sink.new text more w.prefix;
   cause = λ is. w.cause (cannot_write {X = Y} {Y = X} i is);
   kept = w.kept;
 }
@@ -57,7 +57,7 @@ module _ {X : Type 0} (x : X) (text more : List ℕ) (o0 o1 o2 : Option (List �
   writes_later_stop {Y} {Z} i v = record {
     whole = tt;
     puts = tt;
-    front = AppendsFront-after o0 o1 o2 text more w.whole v.front;
+    prefix = AppendsPrefix-after o0 o1 o2 text more w.whole v.prefix;
     cause = λ is. Kept-Rose f0 f1 f2 w.kept (v.cause (cannot_write {X = Z} {Y = Y} i is));
     kept = Kept-trans f0 f1 f2 w.kept v.kept;
   }
@@ -66,7 +66,7 @@ module _ {X : Type 0} (x : X) (text more : List ℕ) (o0 o1 o2 : Option (List �
   writes_both y z v = record {
     whole = v.whole ∙ ap (λ (o : Option (List ℕ)). appended o more) w.whole ∙ appended-appended o0 text more;
     puts = v.puts ∙ ap (λ (p : Option ℕ). counted (line_count more) p) w.puts ∙ counted-lines text more p0;
-    front = tt;
+    prefix = tt;
     cause = λ is. absurd cc;
     kept = Kept-trans f0 f1 f2 w.kept v.kept;
   }
@@ -74,14 +74,14 @@ module _ {X : Type 0} (x : X) (text more : List ℕ) (o0 o1 o2 : Option (List �
 -- ---- what is begun
 
 pub none_begun : (manner : Manner) (files : List ReportedFile) (old new : Option (List ℕ)) → new ≡ old → ReportsBegun manner files old new
-none_begun manner files old new same = record { count = 0; each = tt; front = AppendsFront-none old new [] same }
+none_begun manner files old new same = record { count = 0; each = tt; prefix = AppendsPrefix-none old new [] same }
 
--- A front of the first report was written.
+-- A prefix of the first report was written.
 pub first_begun : (manner : Manner) (name : List ℕ) (entries : List MethodEntry) (files : List ReportedFile) (old new : Option (List ℕ)) → NothingOr old new (CanRun entries)
-    → AppendsFront old new (report_text name manner entries) → ReportsBegun manner ((name, entries) ∷ files) old new
-first_begun manner name entries files old new (inl same) front = none_begun manner ((name, entries) ∷ files) old new same
-first_begun manner name entries files old new (inr known) front =
-    record { count = 1; each = (known, tt); front = subst (AppendsFront old new) (sym (append-nil (report_text name manner entries))) front }
+    → AppendsPrefix old new (report_text name manner entries) → ReportsBegun manner ((name, entries) ∷ files) old new
+first_begun manner name entries files old new (inl same) prefix = none_begun manner ((name, entries) ∷ files) old new same
+first_begun manner name entries files old new (inr known) prefix =
+    record { count = 1; each = (known, tt); prefix = subst (AppendsPrefix old new) (sym (append-nil (report_text name manner entries))) prefix }
 
 -- The first report was written.
 pub more_begun : (manner : Manner) (name : List ℕ) (entries : List MethodEntry) (files : List ReportedFile) (old mid new : Option (List ℕ)) → CanRun entries
@@ -89,7 +89,7 @@ pub more_begun : (manner : Manner) (name : List ℕ) (entries : List MethodEntry
 more_begun manner name entries files old mid new known whole later = record {
   count = suc later.count;
   each = (known, later.each);
-  front = AppendsFront-after old mid new (report_text name manner entries) (file_reports manner (take later.count files)) whole later.front;
+  prefix = AppendsPrefix-after old mid new (report_text name manner entries) (file_reports manner (take later.count files)) whole later.prefix;
 }
 
 -- ---- the status

@@ -9,9 +9,9 @@ use Rattle.std.proofs.lemmas.Option.{get_or_from_slice_get, none-some, same_Some
 use Rattle.asm_image.specs.Faults.{FirstBroken}
 use Rattle.asm_image.specs.Rows.{methods_of}
 use Rattle.asm_image.specs.declared.method_row.MethodRow.{MethodRow}
-use Rattle.cc_base.proofs.SinkLemmas.{AppendsFront-none}
+use Rattle.cc_base.proofs.SinkLemmas.{AppendsPrefix-none}
 use Rattle.cc_base.specs.Digits.{hex}
-use Rattle.cc_base.specs.Sink.{AppendsFront}
+use Rattle.cc_base.specs.Sink.{AppendsPrefix}
 use Rattle.unit_builder.specs.Linked.{linked, linked_entries}
 use Rattle.unit_builder.specs.Outcomes.{entries_in, outcome_in}
 use Rattle.unit_builder.specs.Scopes.{scope_in}
@@ -77,7 +77,7 @@ module _ (names files : List (List ℕ)) (old new : Option (List ℕ)) (text : L
       absurd
       (IsToldBy.item
       (section_told {X = ⊥} (λ item. absurd item) (λ item. absurd item) (λ item. ⊥) (λ item. absurd item) (λ item known. absurd item) (λ item. absurd item) [] 0 old new text k line tt
-      (AppendsFront-none old new [] same) appended has))
+      (AppendsPrefix-none old new [] same) appended has))
 
   abbrev report : Manner → NumberedFile → List ℕ
   report manner item = file_report manner (item.0, entries_in (linked files) item.1)
@@ -104,12 +104,12 @@ module _ (names files : List (List ℕ)) (old new : Option (List ℕ)) (text : L
       let n = begun.count in
       let taken : take n (map entries numbered) ≡ map entries (take n numbered) = take-map entries n numbered in
       let each = all_mapped (λ (file : ReportedFile). CanRun file.1) entries (take n numbered) (subst (AllByRecursion (λ (file : ReportedFile). CanRun file.1)) taken begun.each) in
-      let front : AppendsFront old new (flat_map (report manner) (take n numbered)) =
-      subst (AppendsFront old new) (ap (file_reports manner) taken ∙ flat_map-map (file_report manner) entries (take n numbered)) begun.front in
+      let prefix : AppendsPrefix old new (flat_map (report manner) (take n numbered)) =
+      subst (AppendsPrefix old new) (ap (file_reports manner) taken ∙ flat_map-map (file_report manner) entries (take n numbered)) begun.prefix in
       let told =
       section_told (report manner) (said manner) can_run (λ (item : NumberedFile). report_is_lines item.0 manner (entries_in (linked files) item.1))
       (λ (item : NumberedFile) (known : can_run item). report_one_line item.0 manner ((linked files).bytes item.1) (outcome_in (scope_in (linked files) item.1)) known)
-      (λ (item : NumberedFile). report_is_section item.0 manner (entries_in (linked files) item.1)) numbered n old new text k line each front appended has in
+      (λ (item : NumberedFile). report_is_section item.0 manner (entries_in (linked files) item.1)) numbered n old new text k line each prefix appended has in
       let same : told.item.1 ≡ k = numbered_at names 0 (length files) k told.item told.kth ∙ omega arith in
       record {
         name = told.item.0;

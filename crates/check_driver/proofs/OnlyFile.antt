@@ -11,11 +11,11 @@ use Rattle.command_words.specs.Words.{command_of, file_indexes, word_at, words_a
 use Rattle.command_words.specs.declared.command.Command.{Command}
 
 -- What was appended is known from what was written before and after.
-pub same_appended : (old new : Option (List ℕ)) (front before text : List ℕ)
-    → new ≡ appended old front → old ≡ Some before → new ≡ Some (before ++ text) → front ≡ text
-same_appended old new front before text adds was is =
-    let both : Some (before ++ front) ≡ Some (before ++ text) = ap (λ (o : Option (List ℕ)). appended o front) (sym was) ∙ sym adds ∙ is in
-    append_cancel_left before front text (same_Some (before ++ front) (before ++ text) both)
+pub same_appended : (old new : Option (List ℕ)) (prefix before text : List ℕ)
+    → new ≡ appended old prefix → old ≡ Some before → new ≡ Some (before ++ text) → prefix ≡ text
+same_appended old new prefix before text adds was is =
+    let both : Some (before ++ prefix) ≡ Some (before ++ text) = ap (λ (o : Option (List ℕ)). appended o prefix) (sym was) ∙ sym adds ∙ is in
+    append_cancel_left before prefix text (same_Some (before ++ prefix) (before ++ text) both)
 
 -- What is met is the file of a command that has one.
 pub file_asked : (words : List (List ℕ)) (command : Command) (file : ℕ) (held : Held) (bytes : List ℕ) (met : CallMet) → file_indexes command ≡ file ∷ []

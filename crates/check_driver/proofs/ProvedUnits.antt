@@ -4,7 +4,7 @@ use Rattle.std.specs.Prelude.{IfSome}
 use Rattle.std.specs.List.{flat_map}
 use Rattle.std.proofs.lemmas.List.{append_cancel_left, length-append}
 use Rattle.cc_base.specs.Files.{Held, READ_LIMIT}
-use Rattle.cc_base.specs.Sink.{AppendsFront, IsFront}
+use Rattle.cc_base.specs.Sink.{AppendsPrefix, IsPrefix}
 use Rattle.cc_base.proofs.SinkLemmas.{appended-nil}
 use Rattle.cil_model.specs.WellFormed.{IsUnitName}
 use Rattle.cil_model.specs.declared.unit.Unit.{Unit as MethodUnit}
@@ -64,9 +64,9 @@ report_begins unit =
     let summary = summary_line (unit_counts found) in
     (lines ++ summary, append_assoc (unit_line unit (all_proved found)) lines summary ∙ append_assoc (unit_said unit (all_proved found)) (codes "\n") (lines ++ summary))
 
--- A front of it whose first line tells a unit to be proved tells this one to be so.
+-- A prefix of it whose first line tells a unit to be proved tells this one to be so.
 report_tells : (unit : MethodUnit) (text signature : List ℕ) → IsUnitName unit.name → slice_get (lines_of text) 0 ≡ Some (codes "unit " ++ signature ++ codes ": proved")
-    → IsFront text (unit_report unit) → (signature ≡ unit_signature unit) × (all_proved (unit_verdicts unit) ≡ true)
+    → IsPrefix text (unit_report unit) → (signature ≡ unit_signature unit) × (all_proved (unit_verdicts unit) ≡ true)
 report_tells unit text signature name first (rest, is) =
     let line = codes "unit " ++ signature ++ codes ": proved" in
     let proved = all_proved (unit_verdicts unit) in
@@ -79,32 +79,32 @@ report_tells unit text signature name first (rest, is) =
 
 -- ---- the answer
 
--- A text with a line is no front of nothing.
-nothing_has_lines : (text line : List ℕ) → slice_get (lines_of text) 0 ≡ Some line → IsFront text [] → ⊥
-nothing_has_lines [] line first front = cc
+-- A text with a line is no prefix of nothing.
+nothing_has_lines : (text line : List ℕ) → slice_get (lines_of text) 0 ≡ Some line → IsPrefix text [] → ⊥
+nothing_has_lines [] line first prefix = cc
 nothing_has_lines (b ∷ text) line first (rest, is) = cc
 
-front_of_answer : (large : Bool) (refused answer : Answer) (text line : List ℕ) → slice_get (lines_of text) 0 ≡ Some line → refused.out ≡ []
-    → IsFront text (Answer.out (if large then refused else answer)) → IsFront text answer.out
-front_of_answer true refused answer text line first none front = absurd (nothing_has_lines text line first (subst (IsFront text) none front))
-front_of_answer false refused answer text line first none front = front
+prefix_of_answer : (large : Bool) (refused answer : Answer) (text line : List ℕ) → slice_get (lines_of text) 0 ≡ Some line → refused.out ≡ []
+    → IsPrefix text (Answer.out (if large then refused else answer)) → IsPrefix text answer.out
+prefix_of_answer true refused answer text line first none prefix = absurd (nothing_has_lines text line first (subst (IsPrefix text) none prefix))
+prefix_of_answer false refused answer text line first none prefix = prefix
 
 answer_report : (name bytes text line : List ℕ) (fault : Option UnitFault) → slice_get (lines_of text) 0 ≡ Some line
-    → IsFront text (Answer.out (unit_answer name bytes fault)) → (fault ≡ None) × IsFront text (unit_report (unit_of bytes))
-answer_report name bytes text line None first front = (refl, front)
-answer_report name bytes text line (Some fault) first front = absurd (nothing_has_lines text line first front)
+    → IsPrefix text (Answer.out (unit_answer name bytes fault)) → (fault ≡ None) × IsPrefix text (unit_report (unit_of bytes))
+answer_report name bytes text line None first prefix = (refl, prefix)
+answer_report name bytes text line (Some fault) first prefix = absurd (nothing_has_lines text line first prefix)
 
 -- A text with a line that begins what is expected begins the report of the unit.
-front_of_report : (words : List (List ℕ)) (held : Held) (bytes : List ℕ) (met : CallMet) (text line : List ℕ) → AsksForUnit words held bytes
-    → AreUnder (Some held) (file_names words) met.files → slice_get (lines_of text) 0 ≡ Some line → IsFront text (Answer.out (expected words met))
-    → (first_unit_fault bytes ≡ None) × IsFront text (unit_report (unit_of bytes))
-front_of_report words held bytes met text line asks under first front =
+prefix_of_report : (words : List (List ℕ)) (held : Held) (bytes : List ℕ) (met : CallMet) (text line : List ℕ) → AsksForUnit words held bytes
+    → AreUnder (Some held) (file_names words) met.files → slice_get (lines_of text) 0 ≡ Some line → IsPrefix text (Answer.out (expected words met))
+    → (first_unit_fault bytes ≡ None) × IsPrefix text (unit_report (unit_of bytes))
+prefix_of_report words held bytes met text line asks under first prefix =
     let name = word_at words asks.file in
     let here = subst (λ (command : Option Command). AreUnder (Some held) (command_files words command) met.files) asks.command under in
     let answer = file_asked words (commands.Unit asks.file) asks.file held bytes met refl asks.is_held asks.command here in
-    let begins : IsFront text (Answer.out (unit_file_answer name bytes)) = subst (λ (a : Answer). IsFront text a.out) answer front in
+    let begins : IsPrefix text (Answer.out (unit_file_answer name bytes)) = subst (λ (a : Answer). IsPrefix text a.out) answer prefix in
     answer_report name bytes text line (first_unit_fault bytes) first
-    (front_of_answer (nat_le READ_LIMIT (length bytes)) _ (unit_answer name bytes (first_unit_fault bytes)) text line first refl begins)
+    (prefix_of_answer (nat_le READ_LIMIT (length bytes)) _ (unit_answer name bytes (first_unit_fault bytes)) text line first refl begins)
 
 -- ---- the theorem
 
@@ -117,19 +117,19 @@ spelled_of told words held bytes told_is asks known =
 -- A file that was asked for is the spelling of a safe unit where the first line of what was printed tells that unit to
 -- be proved.
 pub proved_unit_is_safe : (told : Option Held) (words : List (List ℕ)) (held : Held) (bytes signature : List ℕ) (met : CallMet) (old new : Option (List ℕ))
-    → told ≡ Some held → AsksForUnit words held bytes → AreUnder told (file_names words) met.files → AppendsFront old new (expected words met).out
+    → told ≡ Some held → AsksForUnit words held bytes → AreUnder told (file_names words) met.files → AppendsPrefix old new (expected words met).out
     → (new ≡ old) ⊎ IfSome (command_of words) (λ command. IfUnit command (λ file. IsHeldSpelled told (word_at words file)))
     → PrintsProvedUnit old new signature → SpellSafeUnit bytes signature
 proved_unit_is_safe told words held bytes signature met old new told_is asks under appends (inl same) prints =
     let nothing : [] ≡ prints.text = same_appended old new [] prints.appended.before prints.text (same ∙ sym (appended-nil old)) prints.appended.was prints.appended.is in
     absurd (nothing_has_lines prints.text _ prints.first ([], nothing ∙ sym (append-nil prints.text)))
-proved_unit_is_safe told words held bytes signature met old new told_is asks under (front, is_front, adds) (inr known) prints =
+proved_unit_is_safe told words held bytes signature met old new told_is asks under (prefix, is_prefix, adds) (inr known) prints =
     let unit = unit_of bytes in
     let spelled = spelled_of told words held bytes told_is asks known in
     let here = subst (λ (t : Option Held). AreUnder t (file_names words) met.files) told_is under in
-    let same : front ≡ prints.text = same_appended old new front prints.appended.before prints.text adds prints.appended.was prints.appended.is in
-    let begins = subst (λ (t : List ℕ). IsFront t (Answer.out (expected words met))) same is_front in
-    let report = front_of_report words held bytes met prints.text _ asks here prints.first begins in
+    let same : prefix ≡ prints.text = same_appended old new prefix prints.appended.before prints.text adds prints.appended.was prints.appended.is in
+    let begins = subst (λ (t : List ℕ). IsPrefix t (Answer.out (expected words met))) same is_prefix in
+    let report = prefix_of_report words held bytes met prints.text _ asks here prints.first begins in
     let tells = report_tells unit prints.text signature spelled.is_unit.well_formed.name prints.first report.1 in
     record {
       unit = unit;

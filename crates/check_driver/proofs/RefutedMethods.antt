@@ -7,7 +7,7 @@ use Rattle.asm_image.specs.declared.fault.AsmFault.{AsmFault}
 use Rattle.asm_image.specs.declared.found.Found.TheVariants.{One}
 use Rattle.asm_image.specs.declared.method_row.MethodRow.{MethodRow}
 use Rattle.cc_base.specs.Files.{Held}
-use Rattle.cc_base.specs.Sink.{AppendsFront, IsFront}
+use Rattle.cc_base.specs.Sink.{AppendsPrefix, IsPrefix}
 use Rattle.cc_base.specs.declared.token.Token.{Token}
 use Rattle.cil_model.specs.Runs.{Safe}
 use Rattle.cil_model.specs.declared.machine.World.{World}
@@ -31,7 +31,7 @@ use Rattle.check_driver.proofs.OnlyFile.{file_asked, same_appended}
 
 -- The text begins as the line of arguments.
 abbrev BeginsRefuted : List ℕ → List ℕ → Type 0
-BeginsRefuted others text = IsFront (codes "refuted:" ++ others) text
+BeginsRefuted others text = IsPrefix (codes "refuted:" ++ others) text
 
 -- ---- the search
 
@@ -83,18 +83,18 @@ world_is bytes method token None w named is = by_method (method_of bytes token) 
 -- ---- the theorem
 
 pub refuted_is_unsafe : (told : Option Held) (words : List (List ℕ)) (held : Held) (bytes : List ℕ) (token : Token) (met : CallMet) (old new : Option (List ℕ))
-    → told ≡ Some held → AsksToRefute words held bytes token → AreUnder told (file_names words) met.files → AppendsFront old new (expected words met).out → PrintsRefuted old new
+    → told ≡ Some held → AsksToRefute words held bytes token → AreUnder told (file_names words) met.files → AppendsPrefix old new (expected words met).out → PrintsRefuted old new
     → Safe (world_of bytes token.0) 0 → ⊥
-refuted_is_unsafe told words held bytes token met old new told_is asks under (front, is_front, adds) prints safe =
+refuted_is_unsafe told words held bytes token met old new told_is asks under (prefix, is_prefix, adds) prints safe =
     let name = word_at words asks.file in
     let method = word_at words asks.method in
     let text = codes "refuted:" ++ prints.others in
-    let same : front ≡ text = same_appended old new front prints.appended.before text adds prints.appended.was prints.appended.is in
+    let same : prefix ≡ text = same_appended old new prefix prints.appended.before text adds prints.appended.was prints.appended.is in
     let here = subst (λ (t : Option Held). AreUnder t (file_names words) met.files) told_is under in
     let files = subst (λ (command : Option Command). AreUnder (Some held) (command_files words command) met.files) asks.command here in
     let answer = file_asked words (commands.Refute asks.file asks.method asks.runs) asks.file held bytes met refl asks.is_held asks.command files in
     let begins : BeginsRefuted prints.others (refute_file_answer name method asks.runs bytes (FirstBroken bytes)).out =
-    subst (λ (a : Answer). IsFront text a.out) answer (subst (λ (t : List ℕ). IsFront t (Answer.out (expected words met))) same is_front) in
+    subst (λ (a : Answer). IsPrefix text a.out) answer (subst (λ (t : List ℕ). IsPrefix t (Answer.out (expected words met))) same is_prefix) in
     let is = world_told name (λ w. search_told w (searched w 0 asks.runs)) (world_named method bytes (FirstBroken bytes)) prints.others begins in
     let found = found_told is.world (searched is.world 0 asks.runs) prints.others is.begins in
     found_is_unsafe is.world 0 asks.runs (searched is.world 0 asks.runs) refl found

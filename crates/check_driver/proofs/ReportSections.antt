@@ -3,12 +3,12 @@ use Rattle.std.proofs.Common.{◌≡◌, ◌≢◌, ℕ, Bool, true, false, List
 use Rattle.std.specs.Prelude.{Contains}
 use Rattle.std.specs.List.{AllByRecursion, flat_map}
 use Rattle.std.proofs.lemmas.Bool.{ne_eqb}
-use Rattle.cc_base.specs.Sink.{AppendsFront, IsFront}
+use Rattle.cc_base.specs.Sink.{AppendsPrefix, IsPrefix}
 use Rattle.unit_builder.specs.Outcomes.{entries_of, outcome_of}
 use Rattle.unit_builder.specs.declared.entry.MethodEntry.{MethodEntry}
 use Rattle.unit_builder.specs.declared.entry.Outcome.{Outcome}
 use Rattle.answer_lines.specs.declared.lines.Counts.{Counts}
-use Rattle.answer_lines.proofs.SingleLines.{summary_front, summary_said}
+use Rattle.answer_lines.proofs.SingleLines.{summary_prefix, summary_said}
 use Rattle.answer_lines.proofs.WholeLines.{IsOneLine, as_lines}
 use Rattle.assembly_reports.specs.CheckText.{all_counts, outcome_finding, outcome_shown, verdict_text}
 use Rattle.check_driver.specs.Checked.{AreBegun, report_of}
@@ -22,7 +22,7 @@ use Rattle.assembly_reports.proofs.InferredEntries.{inferred_runnable}
 use Rattle.assembly_reports.proofs.PrintedSafety.{report_one_line}
 use Rattle.assembly_reports.proofs.ReportTexts.{IsSpaced, all_behind, verdicts_spaced}
 use Rattle.assembly_reports.proofs.Reported.{entry_said, lines_behind, method_said, outcome_said, report_is_lines, report_said, shown_said, verdicts_said}
-use Rattle.assembly_reports.proofs.SectionLemmas.{IsInside, IsSection, front_of_lines, section_of_front}
+use Rattle.assembly_reports.proofs.SectionLemmas.{IsInside, IsSection, prefix_of_lines, section_of_prefix}
 use Rattle.assembly_reports.proofs.ShownLines.{no_shown_line}
 use Rattle.unit_verdicts.specs.Picks.{Manner, Pick}
 
@@ -65,7 +65,7 @@ entries_inside manner (entry ∷ entries) =
     all_behind IsInside (entry_said manner entry) (flat_map (entry_said manner) entries) (entry_inside manner entry) (entries_inside manner entries)
 
 summary_inside : (n : Counts) → IsInside (summary_said n)
-unfolding summary_said summary_front
+unfolding summary_said summary_prefix
 summary_inside n = inside (summary_said n) (λ e. let letters : 115 ≡ 97 = e in omega (arith, letters))
 
 pub report_is_section : (name : List ℕ) (manner : Manner) (entries : List MethodEntry) → IsSection (report_said name manner entries)
@@ -105,15 +105,15 @@ module _ {X : Type 0} (report : X → List ℕ) (said : X → List (List ℕ)) (
 
   -- A line of section k of what was appended is one of the report of item k.
   pub section_told : (items : List X) (count : ℕ) (old new : Option (List ℕ)) (text : List ℕ) (k : ℕ) (line : List ℕ) → AllByRecursion Known (take count items)
-      → AppendsFront old new (flat_map report (take count items)) → WasAppended old new text → Contains (section k text) line → IsToldBy said Known items k line
+      → AppendsPrefix old new (flat_map report (take count items)) → WasAppended old new text → Contains (section k text) line → IsToldBy said Known items k line
   section_told items count old new text k line each appends appended has =
       let reported = take count items in
       let lines = flat_map said reported in
-      let (front, is_front, adds) = appends in
-      let same : front ≡ text = same_appended old new front appended.before text adds appended.was appended.is in
-      let all : IsFront text (as_lines lines) = subst (λ (t : List ℕ). IsFront t (as_lines lines)) same (subst (IsFront front) (sym (are_lines reported)) is_front) in
-      let first = front_of_lines text lines (are_one_line reported each) all in
-      let there = section_of_front said reported first.0 k line (are_sections reported)
+      let (prefix, is_prefix, adds) = appends in
+      let same : prefix ≡ text = same_appended old new prefix appended.before text adds appended.was appended.is in
+      let all : IsPrefix text (as_lines lines) = subst (λ (t : List ℕ). IsPrefix t (as_lines lines)) same (subst (IsPrefix prefix) (sym (are_lines reported)) is_prefix) in
+      let first = prefix_of_lines text lines (are_one_line reported each) all in
+      let there = section_of_prefix said reported first.0 k line (are_sections reported)
       (subst (λ (lines : List (List ℕ)). Contains (slice_index_or (sections_of lines) k []) line) first.1 has) in
       record {
         item = there.item;
@@ -143,4 +143,4 @@ pub begun_section : (infer : Bool) (manner : Manner) (files : List (List ℕ × 
 begun_section infer manner files old new text k line begun appended has =
     section_told (report_of infer manner) (said_of infer manner) (λ (file : List ℕ × List ℕ). IsReportable file.1)
     (λ (file : List ℕ × List ℕ). report_is_lines file.0 manner (reported_entries infer manner.pick file.1)) (whole_of infer manner)
-    (λ (file : List ℕ × List ℕ). report_is_section file.0 manner (reported_entries infer manner.pick file.1)) files begun.count old new text k line begun.each begun.front appended has
+    (λ (file : List ℕ × List ℕ). report_is_section file.0 manner (reported_entries infer manner.pick file.1)) files begun.count old new text k line begun.each begun.prefix appended has

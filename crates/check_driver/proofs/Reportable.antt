@@ -7,7 +7,7 @@ use Rattle.std.proofs.lemmas.List.{take_all}
 use Rattle.std.proofs.lemmas.Option.{same_Some}
 use Rattle.asm_image.specs.Faults.{FirstBroken}
 use Rattle.cc_base.specs.Files.{Held, READ_LIMIT}
-use Rattle.cc_base.specs.Sink.{AppendsFront}
+use Rattle.cc_base.specs.Sink.{AppendsPrefix}
 use Rattle.check_driver.specs.Checked.{AreBegun, AreHeldBegun, IfReports, held_files, report_of}
 use Rattle.assembly_reports.specs.Reportable.{IsReportable}
 use Rattle.result_cache.specs.Entries.{Entry}
@@ -69,7 +69,7 @@ held_begun infer manner held names met read old new under contents begun =
     let same = held_same held names met read begun.count under contents begun.each in record {
       count = begun.count;
       each = subst (AllByRecursion (λ file. IsReportable file.1)) same begun.each;
-      front = subst (λ (files : List (List ℕ × List ℕ)). AppendsFront old new (flat_map (report_of infer manner) files)) same begun.front;
+      prefix = subst (λ (files : List (List ℕ × List ℕ)). AppendsPrefix old new (flat_map (report_of infer manner) files)) same begun.prefix;
     }
 
 -- The assembly that is verified is the first of two files.

@@ -4,9 +4,9 @@ use Rattle.std.specs.Prelude.{IsErrOf}
 use Rattle.std.specs.List.{flat_map}
 use Rattle.std.proofs.Math.Seq.{take-length}
 use Rattle.cc_base.specs.Counts.{Rose}
-use Rattle.cc_base.specs.Sink.{AppendsFront, appended, counted}
+use Rattle.cc_base.specs.Sink.{AppendsPrefix, appended, counted}
 use Rattle.cc_base.proofs.CountLemmas.{Kept-Rose, Kept-refl, Kept-trans}
-use Rattle.cc_base.proofs.SinkLemmas.{AppendsFront-after, AppendsFront-more, AppendsFront-none, appended-appended, appended-nil}
+use Rattle.cc_base.proofs.SinkLemmas.{AppendsPrefix-after, AppendsPrefix-more, AppendsPrefix-none, appended-appended, appended-nil}
 use Rattle.answer_lines.specs.Answers.{Answer, output_answer, refused_answer}
 use Rattle.answer_lines.specs.LineCounts.{line_count}
 use Rattle.answer_lines.specs.Outcome.{Gives}
@@ -42,7 +42,7 @@ Keys = List (List ℕ)
 pub gives_nothing : (o e : Option (List ℕ)) (p q : Option ℕ) (f g : ℕ) → Gives (output_answer 0 []) (Ok 0) (change o o p p f f) (change e e q q g g)
 gives_nothing o e p q f g =
     gives_output 0 [] (Ok 0) (change o o p p f f) e q g refl
-    (record { whole = sym (appended-nil o); puts = puts_none p; front = tt; cause = λ is. absurd cc; kept = Kept-refl f })
+    (record { whole = sym (appended-nil o); puts = puts_none p; prefix = tt; cause = λ is. absurd cc; kept = Kept-refl f })
 
 -- The answer for the first assembly, and for those after it.
 abbrev pub answer_then : List ℕ → ℕ → Answer → Answer
@@ -61,8 +61,8 @@ gives_stop {X} text status others i out e q g w = record {
   err_all = tt;
   out_puts = tt;
   err_puts = tt;
-  out_front = AppendsFront-more out.old out.new text others.out w.front;
-  err_front = AppendsFront-none e e others.err refl;
+  out_prefix = AppendsPrefix-more out.old out.new text others.out w.prefix;
+  err_prefix = AppendsPrefix-none e e others.err refl;
   cause = λ is. inl (w.cause (cannot_write {X = ℕ} {Y = X} i is));
   out_kept = w.kept;
   err_kept = Kept-refl g;
@@ -79,8 +79,8 @@ module _ {X : Type 0} (x : X) (text : List ℕ) (first status : ℕ) (others : A
     err_all = tt;
     out_puts = tt;
     err_puts = tt;
-    out_front = AppendsFront-after o0 o1 o2 text others.out w.whole gives.out_front;
-    err_front = gives.err_front;
+    out_prefix = AppendsPrefix-after o0 o1 o2 text others.out w.whole gives.out_prefix;
+    err_prefix = gives.err_prefix;
     cause = λ is. later_cause (gives.cause is);
     out_kept = Kept-trans f0 f1 f2 w.kept gives.out_kept;
     err_kept = gives.err_kept;
@@ -99,8 +99,8 @@ module _ {X : Type 0} (x : X) (text : List ℕ) (first status : ℕ) (others : A
     err_all = gives.err_all;
     out_puts = gives.out_puts ∙ ap (λ (p : Option ℕ). counted (line_count others.out) p) w.puts ∙ counted-lines text others.out p0;
     err_puts = gives.err_puts;
-    out_front = tt;
-    err_front = tt;
+    out_prefix = tt;
+    err_prefix = tt;
     cause = λ never. absurd cc;
     out_kept = Kept-trans f0 f1 f2 w.kept gives.out_kept;
     err_kept = gives.err_kept;
@@ -113,14 +113,14 @@ gives_is a b r out err same gives = subst (λ (x : Answer). Gives x r out err) (
 -- ---- what is begun
 
 pub begun_none : (infer : Bool) (manner : Manner) (files : List (List ℕ × List ℕ)) (old new : Option (List ℕ)) → new ≡ old → AreBegun infer manner files old new
-begun_none infer manner files old new same = record { count = 0; each = tt; front = AppendsFront-none old new [] same }
+begun_none infer manner files old new same = record { count = 0; each = tt; prefix = AppendsPrefix-none old new [] same }
 
--- A front of the first report was written.
+-- A prefix of the first report was written.
 pub begun_first : (infer : Bool) (manner : Manner) (name bytes : List ℕ) (files : List (List ℕ × List ℕ)) (old new : Option (List ℕ)) → NothingOr old new (IsReportable bytes)
-    → AppendsFront old new (check_text infer name manner bytes) → AreBegun infer manner ((name, bytes) ∷ files) old new
-begun_first infer manner name bytes files old new (inl same) front = begun_none infer manner ((name, bytes) ∷ files) old new same
-begun_first infer manner name bytes files old new (inr known) front =
-    record { count = 1; each = (known, tt); front = subst (AppendsFront old new) (sym (append-nil (check_text infer name manner bytes))) front }
+    → AppendsPrefix old new (check_text infer name manner bytes) → AreBegun infer manner ((name, bytes) ∷ files) old new
+begun_first infer manner name bytes files old new (inl same) prefix = begun_none infer manner ((name, bytes) ∷ files) old new same
+begun_first infer manner name bytes files old new (inr known) prefix =
+    record { count = 1; each = (known, tt); prefix = subst (AppendsPrefix old new) (sym (append-nil (check_text infer name manner bytes))) prefix }
 
 -- The first report was written.
 pub begun_more : (infer : Bool) (manner : Manner) (name bytes : List ℕ) (files : List (List ℕ × List ℕ)) (old mid new : Option (List ℕ)) → IsReportable bytes
@@ -128,7 +128,7 @@ pub begun_more : (infer : Bool) (manner : Manner) (name bytes : List ℕ) (files
 begun_more infer manner name bytes files old mid new known whole later = record {
   count = suc later.count;
   each = (known, later.each);
-  front = AppendsFront-after old mid new (check_text infer name manner bytes) (flat_map (report_of infer manner) (take later.count files)) whole later.front;
+  prefix = AppendsPrefix-after old mid new (check_text infer name manner bytes) (flat_map (report_of infer manner) (take later.count files)) whole later.prefix;
 }
 
 -- ---- what is asked and judged

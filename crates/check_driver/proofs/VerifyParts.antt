@@ -1,7 +1,7 @@
 -- The parts of an answer by a proof file.
 use Rattle.std.proofs.Common.{◌≡◌, ◌≢◌, ℕ, Bool, true, false, List, [], ◌∷◌, Result, Ok, Err, if◌then◌else◌, refl, arith}
 use Rattle.std.specs.Prelude.{IfOk}
-use Rattle.cc_base.proofs.SinkLemmas.{AppendsFront-all}
+use Rattle.cc_base.proofs.SinkLemmas.{AppendsPrefix-all}
 use Rattle.answer_lines.specs.LineCounts.{line_count}
 use Rattle.answer_lines.specs.Writing.{Change, Writes}
 use Rattle.answer_lines.specs.declared.interrupt.Interrupt.{Interrupt}
@@ -25,8 +25,8 @@ proof_fault_plain faults.Large = refl
 -- A report that was written, whole or in part, was begun.
 pub begun_written : {X : Type 0} (r : Result X Interrupt) (manner : Manner) (name bytes : List ℕ) (out : Change) → Writes r out (check_text false name manner bytes)
     → NothingOr out.old out.new (IsReportable bytes) → AreBegun false manner ((name, bytes) ∷ []) out.old out.new
-begun_written (Ok x) manner name bytes out w known = begun_first false manner name bytes [] out.old out.new known (AppendsFront-all out.old out.new (check_text false name manner bytes) w.whole)
-begun_written (Err i) manner name bytes out w known = begun_first false manner name bytes [] out.old out.new known w.front
+begun_written (Ok x) manner name bytes out w known = begun_first false manner name bytes [] out.old out.new known (AppendsPrefix-all out.old out.new (check_text false name manner bytes) w.whole)
+begun_written (Err i) manner name bytes out w known = begun_first false manner name bytes [] out.old out.new known w.prefix
 
 -- The status of a report does not tell that memory ran out.
 few_of : (proved : Bool) (status : ℕ) → status ≡ (if proved then 0 else 1) → status ≢ 7

@@ -15,7 +15,7 @@ use Rattle.check_driver.specs.Met.{contents, first_missing}
 use Rattle.check_driver.specs.CacheMet.{CallMet, cache_entries}
 use Rattle.check_driver.specs.LinkedReports.{RefusedFile, first_refused}
 use Rattle.result_cache.specs.Entries.{Entry}
-use Rattle.unit_verdicts.specs.Asked.{AsksFront, distinct, without_entry}
+use Rattle.unit_verdicts.specs.Asked.{AsksPrefix, distinct, without_entry}
 use Rattle.unit_verdicts.specs.Picks.{Pick, pick_of}
 use Rattle.unit_verdicts.specs.VerdictCache.{CachedUnits}
 use Rattle.unit_verdicts.specs.declared.source.Source.TheVariants.{Cache as OfCache}
@@ -111,10 +111,10 @@ asked_by words met = command_asked words met (command_of words)
 -- An answer that came asked for these, or for a prefix of them where it was interrupted. It is interrupted too where a
 -- file was not read.
 pub record AnswerAsks (keys : List (List ℕ)) (result : Result ℕ Interrupt) (old new : List (List ℕ)) : Type 0 where
-  pub front : AsksFront keys old new
+  pub prefix : AsksPrefix keys old new
   pub whole : IfOk result (λ status. status ≢ 4 → new ≡ old ++ keys)
 
 -- So did a call of the program that ended with this status.
 pub record LeavesAsked (keys : List (List ℕ)) (status : ℕ) (old new : List (List ℕ)) : Type 0 where
-  pub front : AsksFront keys old new
+  pub prefix : AsksPrefix keys old new
   pub whole : status ≢ 4 → status ≢ 6 → status ≢ 7 → new ≡ old ++ keys

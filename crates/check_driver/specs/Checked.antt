@@ -2,7 +2,7 @@
 use Rattle.std.specs.Prelude.{◌≡◌, ℕ, Bool, false, is_some, List, [], map, take, Option, Some, None, option_and_then, unwrap_or}
 use Rattle.std.specs.List.{AllByRecursion, flat_map}
 use Rattle.cc_base.specs.Files.{Held}
-use Rattle.cc_base.specs.Sink.{AppendsFront}
+use Rattle.cc_base.specs.Sink.{AppendsPrefix}
 use Rattle.assembly_reports.specs.CheckText.{check_text}
 use Rattle.check_driver.specs.CacheMet.{command_cache}
 use Rattle.check_driver.specs.Expected.{check_manner}
@@ -15,12 +15,12 @@ use Rattle.unit_verdicts.specs.Picks.{Manner}
 abbrev pub report_of : Bool → Manner → List ℕ × List ℕ → List ℕ
 report_of infer manner (name, bytes) = check_text infer name manner bytes
 
--- The reports of so many of these files, made in this manner, were begun: what was appended to a sink is a front of
+-- The reports of so many of these files, made in this manner, were begun: what was appended to a sink is a prefix of
 -- these reports, one after another, and each of the files is an assembly that can be reported.
 pub record AreBegun (infer : Bool) (manner : Manner) (files : List (List ℕ × List ℕ)) (old new : Option (List ℕ)) : Type 0 where
   pub count : ℕ
   pub each : AllByRecursion (λ file. IsReportable file.1) (take count files)
-  pub front : AppendsFront old new (flat_map (report_of infer manner) (take count files))
+  pub prefix : AppendsPrefix old new (flat_map (report_of infer manner) (take count files))
 
 -- What is held under these names, each with its name.
 abbrev pub held_files : Held → List (List ℕ) → List (List ℕ × List ℕ)

@@ -109,18 +109,18 @@ AreLeft [] old new = new ≡ old
 AreLeft (left ∷ others) old new = (mid : Option Held) × ToldReplaced old mid left.name left.bytes × AreLeft others mid new
 
 -- So they have the first of these, or all.
-abbrev pub FrontIsLeft : List LeftFile → Option Held → Option Held → Type 0
-FrontIsLeft left old new = (front : List LeftFile) × ((rest : List LeftFile) × (left ≡ front ++ rest)) × AreLeft front old new
+abbrev pub PrefixIsLeft : List LeftFile → Option Held → Option Held → Type 0
+PrefixIsLeft left old new = (prefix : List LeftFile) × ((rest : List LeftFile) × (left ≡ prefix ++ rest)) × AreLeft prefix old new
 
 -- An answer that came has left these. Where it was interrupted, the files are as before, or the whole text was written
 -- and then the first of these were left. It is interrupted too where a file was not read.
 pub record AnswerLeaves (left : List LeftFile) (text : List ℕ) (result : Result ℕ Interrupt) (out : Change)
     (old new : Option Held) : Type 0 where
   pub whole : IfOk result (λ status. status ≢ 4 → AreLeft left old new)
-  pub either : (new ≡ old) ⊎ (FrontIsLeft left old new × WritesAll out text)
+  pub either : (new ≡ old) ⊎ (PrefixIsLeft left old new × WritesAll out text)
 
 -- So has a call of the program that ended with this status.
 pub record LeavesFiles (left : List LeftFile) (text : List ℕ) (status : ℕ) (out : Change)
     (old new : Option Held) : Type 0 where
   pub whole : status ≢ 4 → status ≢ 6 → status ≢ 7 → AreLeft left old new
-  pub either : (new ≡ old) ⊎ (FrontIsLeft left old new × WritesAll out text)
+  pub either : (new ≡ old) ⊎ (PrefixIsLeft left old new × WritesAll out text)

@@ -5,7 +5,7 @@ use Rattle.answer_lines.specs.Answers.{Answer, output_answer, refused_answer}
 use Rattle.asm_image.specs.Faults.{FirstBroken}
 use Rattle.asm_image.specs.declared.fault.AsmFault.{AsmFault}
 use Rattle.assembly_answers.specs.FaultText.{assembly_fault_text}
-use Rattle.cc_base.specs.Sink.{AppendsFront}
+use Rattle.cc_base.specs.Sink.{AppendsPrefix}
 use Rattle.assembly_reports.specs.CheckText.{are_proved, report_text}
 use Rattle.assembly_reports.specs.Reportable.{CanRun, entries_at}
 use Rattle.unit_builder.specs.FileSets.{FileSet}
@@ -70,12 +70,12 @@ reported_from files first names = zip names (entries_from files first (length na
 
 -- ---- what the code knows of the files once it has begun the reports
 
--- The reports of so many of these files were begun: what was appended to a sink is a front of these, one after another,
+-- The reports of so many of these files were begun: what was appended to a sink is a prefix of these, one after another,
 -- and the units of each can be run.
 pub record ReportsBegun (manner : Manner) (files : List ReportedFile) (old new : Option (List ℕ)) : Type 0 where
   pub count : ℕ
   pub each : AllByRecursion (λ file. CanRun file.1) (take count files)
-  pub front : AppendsFront old new (file_reports manner (take count files))
+  pub prefix : AppendsPrefix old new (file_reports manner (take count files))
 
 -- The same of linked files with these names and these bytes, none of which is refused.
 pub record LinkedBegun (manner : Manner) (names files : List (List ℕ)) (old new : Option (List ℕ)) : Type 0 where

@@ -10,7 +10,7 @@ ghost use Rattle.answer_lines.specs.declared.interrupt.Interrupt.TheVariants.{Ca
 ghost use Rattle.cc_base.specs.Counts.{Kept, Rose};
 ghost use Rattle.cc_base.specs.Files.{ToldReplaced};
 ghost use Rattle.check_driver.specs.CacheMet.{command_cache, command_proof};
-ghost use Rattle.check_driver.specs.FilesLeft.{AreLeft, FrontIsLeft, IfEither, IfNamed, left_files, left_where, named_file};
+ghost use Rattle.check_driver.specs.FilesLeft.{AreLeft, PrefixIsLeft, IfEither, IfNamed, left_files, left_where, named_file};
 ghost use Rattle.check_driver.specs.HonestCaches.{HonestWhereHonest, KeepsHonest};
 ghost use Rattle.command_words.specs.Words.{word_at, words_bytes};
 ghost use Rattle.command_words.specs.declared.command.Command.TheVariants as commands;
@@ -62,7 +62,7 @@ fn leave_proof<F: Files>(
     ensures ok { let name = option_map (word_at (words_bytes words.now)) index in
         OnOk result (AreLeft (named_file name (proof_left units.now.held units.now.keys)) (F.held files.old) (F.held files.new)) }
     ensures err { let name = option_map (word_at (words_bytes words.now)) index in
-        OnErr result (FrontIsLeft (named_file name (proof_left units.now.held units.now.keys)) (F.held files.old) (F.held files.new)) }
+        OnErr result (PrefixIsLeft (named_file name (proof_left units.now.held units.now.keys)) (F.held files.old) (F.held files.new)) }
     ensures left { IfOk result (λ _. IfSome index (λ _. IsProofLeft units.now.held units.now.keys)) }
     ensures cause { IsErrOf result Unwritten →
         IfNamed (option_map (word_at (words_bytes words.now)) index) (Rose (F.faults files.old) (F.faults files.new)) }
@@ -91,7 +91,7 @@ fn leave_cache<F: Files>(
     ensures ok { let name = option_map (word_at (words_bytes words.now)) index in
         OnOk result (AreLeft (named_file name (cache_left (entries_in units.now.held) units.now.keys)) (F.held files.old) (F.held files.new)) }
     ensures err { let name = option_map (word_at (words_bytes words.now)) index in
-        OnErr result (FrontIsLeft (named_file name (cache_left (entries_in units.now.held) units.now.keys)) (F.held files.old) (F.held files.new)) }
+        OnErr result (PrefixIsLeft (named_file name (cache_left (entries_in units.now.held) units.now.keys)) (F.held files.old) (F.held files.new)) }
     ensures honest { IfSome (option_map (word_at (words_bytes words.now)) index) (λ name.
         AreHonest (entries_in units.now.held) → KeepsHonest name (F.held files.old) (F.held files.new)) }
     ensures cause { IsErrOf result Unwritten →
@@ -124,7 +124,7 @@ fn leave_both<F: Files>(
         OnOk result (AreLeft (left_files (command_proof words (commands.Check check)) (command_cache words (commands.Check check)) units.now.held units.now.keys)
         (F.held files.old) (F.held files.new)) }
     ensures err { let words = words_bytes words.now in
-        OnErr result (FrontIsLeft (left_files (command_proof words (commands.Check check)) (command_cache words (commands.Check check)) units.now.held units.now.keys)
+        OnErr result (PrefixIsLeft (left_files (command_proof words (commands.Check check)) (command_cache words (commands.Check check)) units.now.held units.now.keys)
         (F.held files.old) (F.held files.new)) }
     ensures left { IfOk result (λ _. IfSome check.proof (λ _. IsProofLeft units.now.held units.now.keys)) }
     ensures cause { let words = words_bytes words.now in
@@ -157,7 +157,7 @@ pub fn leave_files<F: Files>(
         OnOk result (AreLeft (left_where (nat_le status 1) (command_proof words (commands.Check check)) (command_cache words (commands.Check check)) units.now.held units.now.keys)
         (F.held files.old) (F.held files.new)) }
     ensures err { let words = words_bytes words.now in
-        OnErr result (FrontIsLeft (left_where (nat_le status 1) (command_proof words (commands.Check check)) (command_cache words (commands.Check check)) units.now.held units.now.keys)
+        OnErr result (PrefixIsLeft (left_where (nat_le status 1) (command_proof words (commands.Check check)) (command_cache words (commands.Check check)) units.now.held units.now.keys)
         (F.held files.old) (F.held files.new)) }
     ensures left { IfOk result (λ _. status ≤ 1 → IfSome check.proof (λ _. IsProofLeft units.now.held units.now.keys)) }
     ensures cause { let words = words_bytes words.now in

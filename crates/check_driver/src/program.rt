@@ -8,7 +8,7 @@ ghost use Rattle.asm_image.specs.Rows.{methods_of};
 ghost use Rattle.asm_image.specs.declared.method_row.MethodRow.{MethodRow};
 ghost use Rattle.cc_base.specs.Counts.{Rose, Kept};
 ghost use Rattle.cc_base.specs.Files.{Held};
-ghost use Rattle.cc_base.specs.Sink.{AppendsFront};
+ghost use Rattle.cc_base.specs.Sink.{AppendsPrefix};
 ghost use Rattle.cc_base.specs.declared.token.Token.{Token};
 ghost use Rattle.check_driver.specs.Asked.{AnswerAsks, LeavesAsked, asked_by, bytes_asked, files_asked};
 ghost use Rattle.cil_model.specs.Runs.{Safe};
@@ -258,7 +258,7 @@ fn answer_words<F: Files, O: Sink, E: Sink, D: Finder>(
 
 /// Tries to put a line once. What refuses it changes nothing further.
 fn try_line<E: Sink>(alloc: Global, line: &[u8], err: &mut E)
-    ensures front { AppendsFront (E.written err.old) (E.written err.new) line.now }
+    ensures prefix { AppendsPrefix (E.written err.old) (E.written err.new) line.now }
     ensures kept { Kept (E.faults err.old) (E.faults err.new) }
 {
     let _ = err.put(alloc, line);
@@ -267,7 +267,7 @@ fn try_line<E: Sink>(alloc: Global, line: &[u8], err: &mut E)
 /// Ends a call that was answered so: the status. Of an interruption the line is tried.
 fn finish<E: Sink>(alloc: Global, answered: Result<u8, Interrupt>, err: &mut E) -> u8
     ensures status { result ≡ status_of answered }
-    ensures front { AppendsFront (E.written err.old) (E.written err.new) (last_line answered) }
+    ensures prefix { AppendsPrefix (E.written err.old) (E.written err.new) (last_line answered) }
     ensures puts { IfOk answered (λ _. E.puts err.new ≡ E.puts err.old) }
     ensures kept { Kept (E.faults err.old) (E.faults err.new) }
 {

@@ -39,7 +39,7 @@ old_clause : clauses_in (laid_from 0 ((1, ops.LoadArg 0) ∷ (1, ops.Length) ∷
 unfolding unit_call
 old_clause = refl
 
--- A debug build: nop in front, and the old form with EndContractBlock, after which another clause begins anew.
+-- A debug build: nop before it, and the old form with EndContractBlock, after which another clause begins anew.
 debug_clause : clauses_in (laid_from 0 ((1, ops.Nop) ∷ (1, ops.LoadArg 0) ∷ (1, ops.Null) ∷ (2, ops.Bin operators.CgtUn) ∷ (5, ops.Call 1) ∷ (1, ops.Nop) ∷ (5, ops.Call 9)
     ∷ (1, ops.Nop) ∷ (1, ops.Const (pos 1)) ∷ (1, ops.Neg) ∷ (1, ops.Not) ∷ (5, ops.Call 1) ∷ (1, ops.Return) ∷ []))
     ≡ (Requires, Some (terms.Bin operators.CgtUn (terms.Arg 0) terms.Null)) ∷ (Requires, Some (terms.Un unary.Not (terms.Un unary.Neg (terms.Const (pos 1))))) ∷ []

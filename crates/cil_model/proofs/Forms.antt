@@ -1,4 +1,4 @@
--- What every spelling of an instruction is: it is not empty, it is a list of bytes, and it is the front of no other.
+-- What every spelling of an instruction is: it is not empty, it is a list of bytes, and it is the prefix of no other.
 use Rattle.std.proofs.Common.{◌≡◌, ℕ, ◌+◌, ◌^◌, ◌<◌, List, [], ◌∷◌, ◌++◌, length, map, append_assoc, append-nil, Option, Some, None, refl, sym, ap, subst, ◌∙◌, arith, inl, inr}
 use Rattle.std.specs.List.{AllByRecursion}
 use Rattle.std.proofs.lemmas.List.{append_cancel_left}
@@ -50,7 +50,7 @@ spelling_some i bytes spells =
       | inr (inr switch) ↦ rw switch.spelled (omega arith)
     ]
 
--- ---- fronts
+-- ---- prefixes
 
 -- Numbers of one width are the same where one's bytes begin with the other's.
 same_number : (width n m : ℕ) (more rest : List ℕ) → n < 256 ^ width → m < 256 ^ width → little_bytes width n ++ more ≡ little_bytes width m ++ rest → (n ≡ m) × (more ≡ rest)
@@ -164,6 +164,6 @@ module _ (i j : Instr) (bytes more : List ℕ) (at : i.at ≡ j.at) (spells : Sp
         | inr (inr switch') ↦ same_switch i j bytes more at spells.size spells'.size switch switch'
       ]
 
-  -- No spelling is the front of another, where both stand at one IL offset: what begins with one is that one.
-  pub no_front : Same i j more
-  no_front = elim spells.row [ inl short ↦ behind_short short | inr (inl long) ↦ behind_long long | inr (inr switch) ↦ behind_switch switch ]
+  -- No spelling is the prefix of another, where both stand at one IL offset: what begins with one is that one.
+  pub no_prefix : Same i j more
+  no_prefix = elim spells.row [ inl short ↦ behind_short short | inr (inl long) ↦ behind_long long | inr (inr switch) ↦ behind_switch switch ]

@@ -80,8 +80,8 @@ told words check is =
     let named = few && infers_alone words && are_refs_named words in
     let last = and_parts (named && is_own_name words (cache_place words)) (is_own_name words (proof_place words)) both.0 in
     let before = and_parts named (is_own_name words (cache_place words)) last.0 in
-    let front = and_parts (few && infers_alone words) (are_refs_named words) before.0 in record {
-      alone = (and_parts few (infers_alone words) front.0).1;
+    let prefix = and_parts (few && infers_alone words) (are_refs_named words) before.0 in record {
+      alone = (and_parts few (infers_alone words) prefix.0).1;
       infer = sym (ap (λ (c : CheckWords). c.infer) both.1);
       proof = sym (ap (λ (c : CheckWords). c.proof) both.1);
     }

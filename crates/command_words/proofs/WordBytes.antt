@@ -19,15 +19,15 @@ count_of_words p (word ∷ words) =
     sum_by-cons (λ (w : String Global). cond (p (string_bytes w)) 1 0) word words ∙ ap (λ n. cond (p (string_bytes word)) 1 0 + n) (count_of_words p words)
     ∙ sym (sum_by-cons (λ (b : List ℕ). cond (p b) 1 0) (string_bytes word) (words_bytes words))
 
-passing_front : (p : List ℕ → Bool) (words : List (String Global)) → prefix_len (λ word. p (string_bytes word)) words ≡ prefix_len p (words_bytes words)
-passing_front p [] = refl
-passing_front p (word ∷ words) = ap (λ n. cond (p (string_bytes word)) (1 + n) 0) (passing_front p words)
+passing_prefix : (p : List ℕ → Bool) (words : List (String Global)) → prefix_len (λ word. p (string_bytes word)) words ≡ prefix_len p (words_bytes words)
+passing_prefix p [] = refl
+passing_prefix p (word ∷ words) = ap (λ n. cond (p (string_bytes word)) (1 + n) 0) (passing_prefix p words)
 
 -- Which of them is the first that passes.
 pub position_of_words : (p : List ℕ → Bool) (words : List (String Global)) → position (λ word. p (string_bytes word)) words ≡ position p (words_bytes words)
 position_of_words p words =
     let first = position_or_len p (words_bytes words) in
-    ap (λ n. cond (nat_lt n (length words)) (Some n) None) (passing_front (λ bytes. not (p bytes)) words)
+    ap (λ n. cond (nat_lt n (length words)) (Some n) None) (passing_prefix (λ bytes. not (p bytes)) words)
     ∙ ap (λ n. cond (nat_lt first n) (Some first) None) (sym (length-map words (λ (word : String Global). string_bytes word)))
 
 pub ruleset told = (all_words, count_of_words, position_of_words, length-map)

@@ -87,10 +87,10 @@ past (b ∷ base) xs n =
     let next : length (b ∷ base) + n ≡ suc (length base + n) = omega arith in
     ap (slice_get (b ∷ (base ++ xs))) next ∙ past base xs n
 
-pub front_at : {X : Type 0} (xs ys : List X) (i : ℕ) (x : X) → slice_get xs i ≡ Some x → slice_get (xs ++ ys) i ≡ Some x
-front_at [] ys i x is = absurd (none-some x is)
-front_at (y ∷ xs) ys zero x is = is
-front_at (y ∷ xs) ys (suc i) x is = front_at xs ys i x is
+pub prefix_at : {X : Type 0} (xs ys : List X) (i : ℕ) (x : X) → slice_get xs i ≡ Some x → slice_get (xs ++ ys) i ≡ Some x
+prefix_at [] ys i x is = absurd (none-some x is)
+prefix_at (y ∷ xs) ys zero x is = is
+prefix_at (y ∷ xs) ys (suc i) x is = prefix_at xs ys i x is
 
 -- Arguments that lie on others are read where the environment says, whatever lies on them.
 pub reads_over : (env : TreeEnv) (places : List Place) (place : Place) (base args more : List Value) (heap new : Heap)
@@ -104,7 +104,7 @@ reads_over env places place base args more heap new result first on_top fit fits
   heap_is = refl;
   args_are = λ n v is.
       subst (λ m. slice_get ((base ++ args) ++ more) (m + n) ≡ Some v) (sym first)
-      (front_at (base ++ args) more (length base + n) v (past base args n ∙ is));
+      (prefix_at (base ++ args) more (length base + n) v (past base args n ∙ is));
   result_is = on_top;
   fit = fit;
   result_fits = fits;

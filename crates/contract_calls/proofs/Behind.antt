@@ -225,7 +225,7 @@ pub less_keeps : (state : State) (first count : ℕ) (below args more : List Val
 less_keeps None first count below args more heap start long over = elim over.holds [ ]
 less_keeps (Some known) first count below args more heap start long over =
     let all = (below ++ args) ++ more in
-    let front : take first all ≡ below =
+    let prefix : take first all ≡ below =
     ap (take first) (append_assoc below args more) ∙ take_at below (args ++ more) first (sym start) in
     let size : length (below ++ args) ≡ first + count = length-append below args ∙ omega (arith, start, long) in
     let rest : drop (first + count) all ≡ more = drop_at (below ++ args) more (first + count) size in
@@ -238,7 +238,7 @@ less_keeps (Some known) first count below args more heap start long over =
         facts = over.holds.facts;
         variables =
             subst (λ l. HaveValues over.number over.array (take first known.variables
-            ++ drop (first + count) known.variables) l) (ap (λ l. l ++ drop (first + count) all) front
+            ++ drop (first + count) known.variables) l) (ap (λ l. l ++ drop (first + count) all) prefix
             ∙ ap (λ l. below ++ l) rest)
             (have_both over.number over.array (take first known.variables) (drop (first + count) known.variables)
             (take first all) (drop (first + count) all)

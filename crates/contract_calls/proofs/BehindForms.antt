@@ -317,15 +317,15 @@ can_return unit known vs more form parts few are on_top = record {
             let plain : n ≡ 0 + n = omega arith in
             subst (λ m. IsOneOfKind known kind (slice_get known.variables m)) plain
             (subst (λ l. IsOneOfKind known kind (slice_get l n)) (sym parts)
-            (front_kind known kind vs more n (of_places_at known unit.args vs n kind are is)));
+            (prefix_kind known kind vs more n (of_places_at known unit.args vs n kind are is)));
         result_fits = λ i kind is of_kind.
             subst (λ m. IsOneOfKind known kind (slice_get known.variables m))
             (sym (result_slot unit.result (length known.variables - 1) i is)) (on_top kind of_kind);
       });
 }
   where
-    front_kind : (known : StateFacts) (kind : Kind) (xs ys : List Var) (n : ℕ) → IsOneOfKind known kind (slice_get xs n)
+    prefix_kind : (known : StateFacts) (kind : Kind) (xs ys : List Var) (n : ℕ) → IsOneOfKind known kind (slice_get xs n)
         → IsOneOfKind known kind (slice_get (xs ++ ys) n)
-    front_kind known kind [] ys n is = elim is [ ]
-    front_kind known kind (x ∷ xs) ys zero is = is
-    front_kind known kind (x ∷ xs) ys (suc n) is = front_kind known kind xs ys n is
+    prefix_kind known kind [] ys n is = elim is [ ]
+    prefix_kind known kind (x ∷ xs) ys zero is = is
+    prefix_kind known kind (x ∷ xs) ys (suc n) is = prefix_kind known kind xs ys n is

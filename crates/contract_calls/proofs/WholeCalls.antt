@@ -57,7 +57,7 @@ behind_from callee known between None same is = tt
 behind_from callee known between (Some after) same is =
     let count = length callee.args in
     let many = same_long known between known.variables between.variables same.variables in
-    let front = subst (λ n. AreSameForms known between (take (length known.variables - count) known.variables)
+    let prefix = subst (λ n. AreSameForms known between (take (length known.variables - count) known.variables)
     (take (n - count) between.variables)) (sym many)
     (same_take known between (length known.variables - count) known.variables between.variables same.variables) in
     record {
@@ -67,7 +67,7 @@ behind_from callee known between (Some after) same is =
       variables_are = is.variables_are;
       same =
           all_on known between after (take (length known.variables - count) known.variables)
-          (take (length between.variables - count) between.variables) is.below front is.same;
+          (take (length between.variables - count) between.variables) is.below prefix is.same;
       of_kind = is.of_kind;
     }
 

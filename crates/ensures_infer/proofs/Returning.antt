@@ -32,8 +32,8 @@ none_returns unit (i ∷ is) state none =
     by false later here_is later_is none others = rw here_is (others (later_is ∙ none))
 
 -- All instructions but the last.
-abbrev front : List Instr → List Instr
-front is = take (length is - 1) is
+abbrev prefix : List Instr → List Instr
+prefix is = take (length is - 1) is
 
 from_it : (is : List Instr) (k : ℕ) (i : Instr) → k < length is → get_or is k i ≡ i → drop k is ≡ i ∷ drop (k + 1) is
 from_it is k i below here =
@@ -49,7 +49,7 @@ pub record IsUnderWay (unit : MethodUnit) (is : List Instr) (before : List State
 
 module _ (unit : MethodUnit) (is : List Instr) (before : List State) (first : State) (found : List State)
     (state : State) (k : ℕ) (i : Instr) (way : IsUnderWay unit is before first found state k)
-    (below : k < length (front is)) (there : i ≡ get_or (front is) k i) where
+    (below : k < length (prefix is)) (there : i ≡ get_or (prefix is) k i) where
   rest_is : drop k is ≡ i ∷ drop (k + 1) is
   rest_is =
       let last = length is - 1 in
@@ -78,7 +78,7 @@ module _ (unit : MethodUnit) (is : List Instr) (before : List State) (first : St
 -- The last one.
 module _ (unit : MethodUnit) (is : List Instr) (before : List State) (first : State) (found : List State)
     (state : State) (k : ℕ) (last : Instr) (way : IsUnderWay unit is before first found state k) (some : 1 ≤ length is)
-    (there : last ≡ get_or is (length is - 1) last) (low : length (front is) ≤ k) (high : k ≤ length (front is)) where
+    (there : last ≡ get_or is (length is - 1) last) (low : length (prefix is) ≤ k) (high : k ≤ length (prefix is)) where
   at_last : drop k is ≡ last ∷ drop (k + 1) is
   at_last =
       let at : k ≡ length is - 1 = omega (arith, some, low, high, length-take (length is - 1) is) in

@@ -27,7 +27,7 @@ use Rattle.cil_model.specs.declared.place.Place.{Place}
 use Rattle.cil_model.specs.declared.unit.Unit.{Unit as MethodUnit}
 use Rattle.cil_model.specs.declared.unit_numbers.UnitCall.{UnitCall}
 use Rattle.cil_model.specs.declared.unit_numbers.UnitCall.TheVariants as calls
-use Rattle.flow_graph.proofs.Items.{in_front, last_there}
+use Rattle.flow_graph.proofs.Items.{in_prefix, last_there}
 
 -- The offset is one of these, at some place.
 abbrev pub IsOneOf : List ℕ → ℕ → Type 0
@@ -218,7 +218,7 @@ module _ (unit : MethodUnit) (i : Instr) (f : Frame) (heap : Heap) where
   effects_of_go (ops.Branch tests.Always target) = always_goes target f heap f.stack
   effects_of_go (ops.Branch test target) = branches_by_goes (target ∷ Next ∷ []) unit i f heap (1, refl) target (0, refl) test f.stack
   effects_of_go (ops.Switch targets) =
-      switches_go (targets ++ Next ∷ []) unit i f heap (length targets, last_there targets Next) targets f.stack (λ n at e. (n, in_front targets (Next ∷ []) n at e))
+      switches_go (targets ++ Next ∷ []) unit i f heap (length targets, last_there targets Next) targets f.stack (λ n at e. (n, in_prefix targets (Next ∷ []) n at e))
   effects_of_go (ops.Bin operator) = binary_goes (Next ∷ []) unit i f heap (0, refl) operator (comparison_of operator) f.stack
   effects_of_go ops.Neg = changes_goes (Next ∷ []) unit i f heap (0, refl) unary.Neg f.stack
   effects_of_go ops.Not = changes_goes (Next ∷ []) unit i f heap (0, refl) unary.Not f.stack

@@ -27,10 +27,10 @@ module _ {X : Type 0} where
   pub of_place : (P : X → Type 0) (xs : List X) (n : ℕ) (x : X) → AllByRecursion P xs → slice_get xs n ≡ Some x → P x
   of_place P xs n x all there = subst P (get_or_from_slice_get xs n x x there) (All-from_recursion P xs all n x (slice_get_within xs n x there))
 
-  pub in_front : (xs ys : List X) (n : ℕ) (x : X) → slice_get xs n ≡ Some x → slice_get (xs ++ ys) n ≡ Some x
-  in_front [] ys n x there = absurd (none-some x there)
-  in_front (y ∷ xs) ys zero x there = there
-  in_front (y ∷ xs) ys (suc n) x there = in_front xs ys n x there
+  pub in_prefix : (xs ys : List X) (n : ℕ) (x : X) → slice_get xs n ≡ Some x → slice_get (xs ++ ys) n ≡ Some x
+  in_prefix [] ys n x there = absurd (none-some x there)
+  in_prefix (y ∷ xs) ys zero x there = there
+  in_prefix (y ∷ xs) ys (suc n) x there = in_prefix xs ys n x there
 
   pub last_there : (xs : List X) (x : X) → slice_get (xs ++ x ∷ []) (length xs) ≡ Some x
   last_there [] x = refl

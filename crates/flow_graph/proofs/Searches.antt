@@ -116,39 +116,39 @@ module _ {X : Type 0} (p : X → Bool) where
   abbrev Passes : Bool → X → Type 0
   Passes b x = p x ≡ b
 
-  -- What passes is a front.
-  pub passing_front : (xs : List X) (k : ℕ) → k ≤ length xs → AllWithin (λ x. p x ≡ true) xs 0 k → AllWithin (λ x. p x ≡ false) xs k (length xs)
+  -- What passes is a prefix.
+  pub passing_prefix : (xs : List X) (k : ℕ) → k ≤ length xs → AllWithin (λ x. p x ≡ true) xs 0 k → AllWithin (λ x. p x ≡ false) xs k (length xs)
       → take k xs ≡ filter p xs
-  passing_front [] zero le front behind = refl
-  passing_front [] (suc k) le front behind = refl
-  passing_front (x ∷ xs) zero le front behind =
+  passing_prefix [] zero le prefix behind = refl
+  passing_prefix [] (suc k) le prefix behind = refl
+  passing_prefix (x ∷ xs) zero le prefix behind =
       rw (behind zero x (omega arith) (omega arith))
-      (passing_front xs zero (omega arith) (none_within (Passes true) xs) (tail_from_start (Passes false) x xs (length xs) behind))
-  passing_front (x ∷ xs) (suc k) le front behind =
-      rw (front zero x (omega arith) (omega arith))
-      (ap (λ (ys : List X). x ∷ ys) (passing_front xs k (omega arith) (tail_from_start (Passes true) x xs k front) (tail (Passes false) x xs k (length xs) behind)))
+      (passing_prefix xs zero (omega arith) (none_within (Passes true) xs) (tail_from_start (Passes false) x xs (length xs) behind))
+  passing_prefix (x ∷ xs) (suc k) le prefix behind =
+      rw (prefix zero x (omega arith) (omega arith))
+      (ap (λ (ys : List X). x ∷ ys) (passing_prefix xs k (omega arith) (tail_from_start (Passes true) x xs k prefix) (tail (Passes false) x xs k (length xs) behind)))
 
-  pub length-passing_front : (xs : List X) (k : ℕ) → k ≤ length xs → AllWithin (λ x. p x ≡ true) xs 0 k → AllWithin (λ x. p x ≡ false) xs k (length xs)
+  pub length-passing_prefix : (xs : List X) (k : ℕ) → k ≤ length xs → AllWithin (λ x. p x ≡ true) xs 0 k → AllWithin (λ x. p x ≡ false) xs k (length xs)
       → length (filter p xs) ≡ k
-  length-passing_front xs k le front behind = ap length (sym (passing_front xs k le front behind)) ∙ length-take-le k xs le
+  length-passing_prefix xs k le prefix behind = ap length (sym (passing_prefix xs k le prefix behind)) ∙ length-take-le k xs le
 
   -- What passes is a rest.
   pub passing_rest : (xs : List X) (k : ℕ) → k ≤ length xs → AllWithin (λ x. p x ≡ false) xs 0 k → AllWithin (λ x. p x ≡ true) xs k (length xs)
       → filter p xs ≡ drop k xs
-  passing_rest [] zero le front behind = refl
-  passing_rest [] (suc k) le front behind = refl
-  passing_rest (x ∷ xs) zero le front behind =
+  passing_rest [] zero le prefix behind = refl
+  passing_rest [] (suc k) le prefix behind = refl
+  passing_rest (x ∷ xs) zero le prefix behind =
       rw (behind zero x (omega arith) (omega arith))
       (ap (λ (ys : List X). x ∷ ys) (passing_rest xs zero (omega arith) (none_within (Passes false) xs) (tail_from_start (Passes true) x xs (length xs) behind)))
-  passing_rest (x ∷ xs) (suc k) le front behind =
-      rw (front zero x (omega arith) (omega arith))
-      (passing_rest xs k (omega arith) (tail_from_start (Passes false) x xs k front) (tail (Passes true) x xs k (length xs) behind))
+  passing_rest (x ∷ xs) (suc k) le prefix behind =
+      rw (prefix zero x (omega arith) (omega arith))
+      (passing_rest xs k (omega arith) (tail_from_start (Passes false) x xs k prefix) (tail (Passes true) x xs k (length xs) behind))
 
 -- What begins at an offset or after it is a rest.
 pub rest_from : (is : List Instr) (at start : ℕ) → start ≤ length is → AllWithin (λ i. nat_lt i.at at ≡ true) is 0 start
     → AllWithin (λ i. nat_lt i.at at ≡ false) is start (length is)
     → take (length is - start) (drop start is) ≡ filter (λ i. nat_le at i.at) is
-rest_from is at start le front behind =
+rest_from is at start le prefix behind =
     take_all (length is - start) (drop start is) (omega (arith, length-drop start is))
     ∙ sym (passing_rest (λ i. nat_le at i.at) is start le
-    (λ k d low high. let h = front k d low high in grind (arith, nat_tests)) (λ k d low high. let h = behind k d low high in grind (arith, nat_tests)))
+    (λ k d low high. let h = prefix k d low high in grind (arith, nat_tests)) (λ k d low high. let h = behind k d low high in grind (arith, nat_tests)))

@@ -152,12 +152,12 @@ named_lengths : (a b : List Var) (known other : List Reference) → AreAlike a b
 named_lengths a b known other alike = λ is_first number.
     let numbers = pairing_by (pairs_of a b) a known b other in
     let later = behind_uses is_first number (origin ∷ numbers.keys) in
-    let front = map (worth number) (numbers_of (if is_first then a else b)) in
+    let prefix = map (worth number) (numbers_of (if is_first then a else b)) in
     let more = map (λ (key : Key). worth number (length_at (if is_first then known else other) (old_of is_first key))) (pairs_of a b).keys in
     sym (drop-map (worth later) (length (numbers_of a)) numbers.exprs)
     ∙ ap (drop (length (numbers_of a))) (numbers_worth is_first number a b known other (pairs_of a b) alike)
-    ∙ ap (λ n. drop n (front ++ more)) (same_count is_first a b alike number)
-    ∙ drop-append_seam front more
+    ∙ ap (λ n. drop n (prefix ++ more)) (same_count is_first a b alike number)
+    ∙ drop-append_seam prefix more
 
 if_near_some : (P : FramePairing → Type 0) (new : FramePairing) (found : Option FramePairing) → found ≡ if_near new → P new → IfSome found P
 if_near_some P new found is holds = subst (λ f. IfSome f P) (sym is) (by (list_all is_near new.numbers.exprs))

@@ -10,7 +10,7 @@ use Rattle.cil_model.specs.Opcodes.{Form, short_form, long_form, target}
 use Rattle.cil_model.specs.Spells.{SpellsForm, SpellsShort, SpellsLong, SpellsSwitch, Spells, offset_bytes}
 use Rattle.cil_model.specs.declared.instruction.Instr.{Instr}
 use Rattle.cil_model.specs.declared.instruction.Op.TheVariants.{Switch}
-use Rattle.cil_model.proofs.Forms.{spelling_bytes, no_long, no_switch, no_front}
+use Rattle.cil_model.proofs.Forms.{spelling_bytes, no_long, no_switch, no_prefix}
 use Rattle.il_decoder.specs.declared.fault.IlFault.{IlFault}
 use Rattle.il_decoder.specs.declared.fault.IlFault.TheVariants.{Short, Opcode}
 use Rattle.il_decoder.specs.Decoding.{Operation, by_form, two_byte, switch_of, switch, operation}
@@ -136,7 +136,7 @@ cut_answer : (at : ℕ) (rest : List ℕ) (c : IsCut at rest) (r : Result Operat
     → r ≡ Err (Short at)
 cut_answer at rest c (Ok (op, size)) is (bytes, more, spells, there) =
     let whole : c.bytes ≡ bytes ++ (more ++ c.missing) = c.cut ∙ ap (λ (t : List ℕ). t ++ c.missing) there ∙ append_assoc bytes more c.missing in
-    let same = no_front (record { at = at; size = size; op = op }) c.instr bytes (more ++ c.missing) (sym c.place) spells (rw whole at c.spelled) in
+    let same = no_prefix (record { at = at; size = size; op = op }) c.instr bytes (more ++ c.missing) (sym c.place) spells (rw whole at c.spelled) in
     absurd (omega (arith, c.some_missing, ap length same.0, length-append more c.missing))
 cut_answer at rest c (Err (Short place)) is h = ap (λ (k : ℕ). Err (Short k)) h.0
 cut_answer at rest c (Err (Opcode place number)) is h =

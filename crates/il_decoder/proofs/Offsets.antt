@@ -53,8 +53,8 @@ offsets_spelled (suc n) bytes enough fits =
     let there : drop (4 * n) (drop 4 bytes) ≡ drop (4 * suc n) bytes = drop-drop (4 * n) 4 bytes ∙ ap (λ (k : ℕ). drop k bytes) (omega arith) in
     let rest : others ++ drop (4 * n) (drop 4 bytes) ≡ drop 4 bytes = offsets_spelled n (drop 4 bytes) (omega (arith, length-drop 4 bytes)) (IsBytes-drop 4 bytes fits) in
     let behind : others ++ drop (4 * suc n) bytes ≡ drop 4 bytes = ap (λ (t : List ℕ). others ++ t) (sym there) ∙ rest in
-    let front : first ≡ take 4 bytes = bytes_back-take 4 bytes (omega arith) fits in
-    append_assoc first others (drop (4 * suc n) bytes) ∙ ap (λ (t : List ℕ). first ++ t) behind ∙ ap (λ (t : List ℕ). t ++ drop 4 bytes) front
+    let prefix : first ≡ take 4 bytes = bytes_back-take 4 bytes (omega arith) fits in
+    append_assoc first others (drop (4 * suc n) bytes) ∙ ap (λ (t : List ℕ). first ++ t) behind ∙ ap (λ (t : List ℕ). t ++ drop 4 bytes) prefix
     ∙ take-append-drop 4 bytes
 
 -- The offsets in the bytes of offsets are those offsets.

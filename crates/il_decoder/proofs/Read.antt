@@ -141,7 +141,7 @@ module _ (at count : ℕ) (rest : List ℕ) (fits : IsBytes rest) (enough : 4 �
       let whole : offset_bytes offsets ≡ padded =
       sym (append-nil (offset_bytes offsets)) ∙ ap (λ (t : List ℕ). offset_bytes offsets ++ t) (sym none)
       ∙ offsets_spelled count padded (omega (arith, full)) are_bytes in
-      let front : little_bytes 4 count ++ padded ≡ rest ++ zeros = sym (append_assoc (little_bytes 4 count) (drop 4 rest) zeros)
+      let prefix : little_bytes 4 count ++ padded ≡ rest ++ zeros = sym (append_assoc (little_bytes 4 count) (drop 4 rest) zeros)
       ∙ ap (λ (t : List ℕ). t ++ zeros) count_there in
       record {
         instr = record { at = at; size = 5 + 4 * count; op = Switch (map (target (at + (5 + 4 * count))) offsets) };
@@ -149,7 +149,7 @@ module _ (at count : ℕ) (rest : List ℕ) (fits : IsBytes rest) (enough : 4 �
         bytes = 0x45 ∷ little_bytes 4 count ++ offset_bytes offsets;
         missing = zeros;
         spelled = spelled_switch at count offsets (length-offsets_in count padded) count_few (offsets_in-small count padded are_bytes);
-        cut = ap (λ (t : List ℕ). 0x45 ∷ t) (ap (λ (t : List ℕ). little_bytes 4 count ++ t) whole ∙ front);
+        cut = ap (λ (t : List ℕ). 0x45 ∷ t) (ap (λ (t : List ℕ). little_bytes 4 count ++ t) whole ∙ prefix);
         some_missing = omega (arith, missed);
       }
 

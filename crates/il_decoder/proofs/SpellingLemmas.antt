@@ -12,7 +12,7 @@ use Rattle.cil_model.specs.Spells.{SpellsForm, SpellsSwitch, Spells, offset_byte
 use Rattle.cil_model.specs.declared.instruction.BinOp.{BinOp}
 use Rattle.cil_model.specs.declared.instruction.Instr.{Instr}
 use Rattle.cil_model.specs.declared.instruction.Test.{Test}
-use Rattle.cil_model.proofs.Forms.{no_front}
+use Rattle.cil_model.proofs.Forms.{no_prefix}
 use Rattle.cil_model.proofs.Rows.{row, rows, rows_up_to}
 use Rattle.il_decoder.specs.Spelling.{operator_opcode, branch_number, numbered_bytes, variable_bytes, constant_bytes, distance, branch_bytes, distance_bytes, switch_bytes, op_bytes, spelled, IsOnlySpelling}
 
@@ -194,26 +194,26 @@ only_spelling i bytes spells =
 
 -- ---- what follows
 
--- Of two prefixes of one list, one is the front of the other.
-fronts : (xs ys more rest : List ℕ) → xs ++ more ≡ ys ++ rest → ((t : List ℕ) × (ys ≡ xs ++ t)) ⊎ ((t : List ℕ) × (xs ≡ ys ++ t))
-fronts [] ys more rest e = inl (ys, refl)
-fronts (x ∷ xs) [] more rest e = inr (x ∷ xs, refl)
-fronts (x ∷ xs) (y ∷ ys) more rest e =
+-- Of two prefixes of one list, one is the prefix of the other.
+prefixes : (xs ys more rest : List ℕ) → xs ++ more ≡ ys ++ rest → ((t : List ℕ) × (ys ≡ xs ++ t)) ⊎ ((t : List ℕ) × (xs ≡ ys ++ t))
+prefixes [] ys more rest e = inl (ys, refl)
+prefixes (x ∷ xs) [] more rest e = inr (x ∷ xs, refl)
+prefixes (x ∷ xs) (y ∷ ys) more rest e =
     let same : x ≡ y = cc in
     let behind : xs ++ more ≡ ys ++ rest = cc in
-    elim (fronts xs ys more rest behind) [
+    elim (prefixes xs ys more rest behind) [
       | inl (t, is) ↦ inl (t, ap₂ (λ (a : ℕ) (zs : List ℕ). a ∷ zs) (sym same) is)
       | inr (t, is) ↦ inr (t, ap₂ (λ (a : ℕ) (zs : List ℕ). a ∷ zs) same is)
     ]
 
-one_front : (i j : Instr) (bytes others : List ℕ) → Spells i bytes → Spells j others → i.at ≡ j.at → ((t : List ℕ) × (others ≡ bytes ++ t)) → i ≡ j
-one_front i j bytes others spells spells' at (t, is) = (no_front i j bytes t at spells (subst (Spells j) is spells')).1
+one_prefix : (i j : Instr) (bytes others : List ℕ) → Spells i bytes → Spells j others → i.at ≡ j.at → ((t : List ℕ) × (others ≡ bytes ++ t)) → i ≡ j
+one_prefix i j bytes others spells spells' at (t, is) = (no_prefix i j bytes t at spells (subst (Spells j) is spells')).1
 
 again : (i j : Instr) (bytes others more rest : List ℕ) → Spells i bytes → Spells j others → j.at ≡ i.at → bytes ++ more ≡ others ++ rest → j ≡ i
 again i j bytes others more rest spells spells' at e =
-    elim (fronts bytes others more rest e) [
-      | inl front ↦ sym (one_front i j bytes others spells spells' (sym at) front)
-      | inr front ↦ one_front j i others bytes spells' spells at front
+    elim (prefixes bytes others more rest e) [
+      | inl prefix ↦ sym (one_prefix i j bytes others spells spells' (sym at) prefix)
+      | inr prefix ↦ one_prefix j i others bytes spells' spells at prefix
     ]
 
 pub spelling : (i : Instr) → ((bytes : List ℕ) × Spells i bytes) → IsOnlySpelling i (spelled i)

@@ -12,14 +12,14 @@ use Rattle.il_decoder.specs.declared.fault.IlFault.{IlFault}
 abbrev pub StandsIn : Instr → List ℕ → Type 0
 StandsIn i code = (bytes rest : List ℕ) × Spells i bytes × (drop i.at code ≡ bytes ++ rest)
 
--- The bytes are the front of an instruction's spelling at this IL offset, some of which is missing.
-pub record IsCut (at : ℕ) (front : List ℕ) : Type 0 where
+-- The bytes are the prefix of an instruction's spelling at this IL offset, some of which is missing.
+pub record IsCut (at : ℕ) (prefix : List ℕ) : Type 0 where
   pub instr : Instr
   pub place : instr.at ≡ at
   pub bytes : List ℕ
   pub missing : List ℕ
   pub spelled : Spells instr bytes
-  pub cut : bytes ≡ front ++ missing
+  pub cut : bytes ≡ prefix ++ missing
   pub some_missing : 0 < length missing
 
 -- The code ends inside a spelling of an instruction at this IL offset.

@@ -190,7 +190,7 @@ fn put_switch(out: &mut Vec<u8>, next: u32, targets: &[u32]) -> Result<(), NoMem
     put_distances(out, next, targets)
 }
 
-/// Appends the bytes of an instruction. Want of memory may leave the front of them.
+/// Appends the bytes of an instruction. Want of memory may leave the prefix of them.
 fn put_spelling(out: &mut Vec<u8>, instr: &Instr) -> Result<(), NoMemory>
     ensures { OnOk result (out.new.items ≡ out.old.items ++ spelled instr.now) }
 {

@@ -96,7 +96,7 @@ fn put_switch(alloc: Global, out: &mut Vec<u8>, targets: &[u32]) -> Result<(), N
     put_targets(alloc, out, targets)
 }
 
-/// Appends the text of an instruction. Want of memory may leave the front of it.
+/// Appends the text of an instruction. Want of memory may leave the prefix of it.
 fn put_text(alloc: Global, out: &mut Vec<u8>, instr: &Instr) -> Result<(), NoMemory>
     ensures { OnOk result (out.new.items ≡ out.old.items ++ instr_text instr.now) }
 {

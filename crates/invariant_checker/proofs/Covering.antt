@@ -128,10 +128,10 @@ told_from : (unit : MethodUnit) (is : List Instr) (state : State)
     → obligations_told (verdicts_from unit is state) ≡ flat_map (obligations_at unit) is
 told_from unit [] state = refl
 told_from unit (i ∷ is) state =
-    let front = told_at unit i state in
+    let prefix = told_at unit i state in
     let behind = told_from unit is (post unit i.op state) in
     map-append (λ (v : Verdict). v.obligation) (verdicts_at unit i state) (verdicts_from unit is (post unit i.op state))
-    ∙ (ap (λ (os : List Obligation). os ++ obligations_told (verdicts_from unit is (post unit i.op state))) front
+    ∙ (ap (λ (os : List Obligation). os ++ obligations_told (verdicts_from unit is (post unit i.op state))) prefix
     ∙ ap (λ (os : List Obligation). obligations_at unit i ++ os) behind)
 
 module _ (code : UnitFlow) (states : List State) where
@@ -139,11 +139,11 @@ module _ (code : UnitFlow) (states : List State) where
       ≡ flat_map (obligations_at code.unit) (flat_map (block_instrs code) (range_with_len a n))
   told_by_blocks a zero = refl
   told_by_blocks a (suc n) =
-      let front = told_from code.unit (block_instrs code a) (state_at states a) in
+      let prefix = told_from code.unit (block_instrs code a) (state_at states a) in
       let behind = told_by_blocks (a + 1) n in
       let later = flat_map (verdicts_in code states) (range_with_len (a + 1) n) in
       map-append (λ (v : Verdict). v.obligation) (verdicts_in code states a) later
-      ∙ (ap (λ (os : List Obligation). os ++ obligations_told later) front
+      ∙ (ap (λ (os : List Obligation). os ++ obligations_told later) prefix
       ∙ (ap (λ (os : List Obligation). flat_map (obligations_at code.unit) (block_instrs code a) ++ os) behind
       ∙ sym (flat_map-append (obligations_at code.unit) (block_instrs code a)
       (flat_map (block_instrs code) (range_with_len (a + 1) n)))))

@@ -46,8 +46,8 @@ one_more_judged found unit i kinds k d state below =
 -- ---- the instructions of a block
 
 -- All instructions but the last.
-abbrev front : List Instr → List Instr
-front is = take (length is - 1) is
+abbrev prefix : List Instr → List Instr
+prefix is = take (length is - 1) is
 
 module _ (unit : MethodUnit) (is : List Instr) (k : ℕ) (i : Instr) (state : State) (found : List Verdict) where
   from_it : k < length is → get_or is k i ≡ i → drop k is ≡ i ∷ drop (k + 1) is
@@ -56,7 +56,7 @@ module _ (unit : MethodUnit) (is : List Instr) (k : ℕ) (i : Instr) (state : St
       ∙ (ap (λ (j : Instr). j ∷ drop (suc k) is) here ∙ ap (λ (n : ℕ). i ∷ drop n is) (sym (add-one k)))
 
   -- What is found at an instruction, and from the next one on.
-  pub one_more_passed : k < length (front is) → i ≡ get_or (front is) k i
+  pub one_more_passed : k < length (prefix is) → i ≡ get_or (prefix is) k i
       → (found ++ verdicts_at unit i state) ++ verdicts_from unit (drop (k + 1) is) (post unit i.op state)
       ≡ found ++ verdicts_from unit (drop k is) state
   one_more_passed below there =
@@ -75,7 +75,7 @@ pub record IsUnderWay (unit : MethodUnit) (is : List Instr) (before : List Verdi
 
 module _ (unit : MethodUnit) (is : List Instr) (before : List Verdict) (first : State) (found : List Verdict)
     (state : State) (k : ℕ) (i : Instr) (way : IsUnderWay unit is before first found state k)
-    (below : k < length (front is)) (there : i ≡ get_or (front is) k i) where
+    (below : k < length (prefix is)) (there : i ≡ get_or (prefix is) k i) where
   can_from : CanJudge unit (i ∷ drop (k + 1) is) state
   can_from =
       let last = length is - 1 in
@@ -97,8 +97,8 @@ module _ (unit : MethodUnit) (is : List Instr) (before : List Verdict) (first : 
   }
 
 pub next : (unit : MethodUnit) (is : List Instr) (before : List Verdict) (first : State) (found : List Verdict)
-    (state : State) (k : ℕ) (i : Instr) → IsUnderWay unit is before first found state k → k < length (front is)
-    → i ≡ get_or (front is) k i → (more : List Verdict) (new : State) → more ≡ found ++ verdicts_at unit i state
+    (state : State) (k : ℕ) (i : Instr) → IsUnderWay unit is before first found state k → k < length (prefix is)
+    → i ≡ get_or (prefix is) k i → (more : List Verdict) (new : State) → more ≡ found ++ verdicts_at unit i state
     → new ≡ post unit i.op state → IsUnderWay unit is before first more new (k + 1)
 next unit is before first found state k i way below there more new told made =
     goes_on unit is before first found state k i way below there more new told made
@@ -106,7 +106,7 @@ next unit is before first found state k i way below there more new told made =
 -- The last one.
 module _ (unit : MethodUnit) (is : List Instr) (before : List Verdict) (first : State) (found : List Verdict)
     (state : State) (k : ℕ) (last : Instr) (way : IsUnderWay unit is before first found state k) (some : 1 ≤ length is)
-    (there : last ≡ get_or is (length is - 1) last) (low : length (front is) ≤ k) (high : k ≤ length (front is)) where
+    (there : last ≡ get_or is (length is - 1) last) (low : length (prefix is) ≤ k) (high : k ≤ length (prefix is)) where
   at_last : drop k is ≡ last ∷ drop (k + 1) is
   at_last =
       let at : k ≡ length is - 1 = omega (arith, some, low, high, length-take (length is - 1) is) in

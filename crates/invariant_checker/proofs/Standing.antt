@@ -52,11 +52,11 @@ ruled_out_in_turn unit i (kind ∷ kinds) state proved =
     let parts = and_parts _ _ proved in
     (parts.0, ruled_out_in_turn unit i kinds (avoid unit i.op kind state) parts.1)
 
-both_proved : (front behind : List Verdict) → all_proved (front ++ behind) ≡ true
-    → (all_proved front ≡ true) × (all_proved behind ≡ true)
-both_proved front behind proved =
-    and_parts (all_proved front) (all_proved behind)
-    (sym (list_all-append (λ (v : Verdict). v.proved) front behind) ∙ proved)
+both_proved : (prefix behind : List Verdict) → all_proved (prefix ++ behind) ≡ true
+    → (all_proved prefix ≡ true) × (all_proved behind ≡ true)
+both_proved prefix behind proved =
+    and_parts (all_proved prefix) (all_proved behind)
+    (sym (list_all-append (λ (v : Verdict). v.proved) prefix behind) ∙ proved)
 
 one_of_all : (f : ℕ → List Verdict) (a n b : ℕ) → all_proved (flat_map f (range_with_len a n)) ≡ true → a ≤ b
     → b < a + n → all_proved (f b) ≡ true

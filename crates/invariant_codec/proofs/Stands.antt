@@ -37,10 +37,10 @@ pub number_stands : (width : ℕ) (bytes : List ℕ) (at n : ℕ) → IsBytes by
     → little_number width (drop at bytes) ≡ n
     → drop at bytes ≡ little_bytes width n ++ drop (at + width) bytes
 number_stands width bytes at n fits inside e =
-    let front : little_bytes width n ≡ take width (drop at bytes) =
+    let prefix : little_bytes width n ≡ take width (drop at bytes) =
     ap (little_bytes width) (sym e) ∙ bytes_back-take width (drop at bytes) (omega (arith, length-drop at bytes))
     (IsBytes-drop at bytes fits) in
-    sym (rw front (ap (λ (t : List ℕ). take width (drop at bytes) ++ t) (sym (drop-drop width at bytes))
+    sym (rw prefix (ap (λ (t : List ℕ). take width (drop at bytes) ++ t) (sym (drop-drop width at bytes))
     ∙ take-append-drop width (drop at bytes)))
 
 pub number_read : (width : ℕ) (bytes : List ℕ) (at n : ℕ) (rest : List ℕ) → n < 256 ^ width

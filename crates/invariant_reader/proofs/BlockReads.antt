@@ -11,7 +11,7 @@ use Rattle.state_facts.specs.StateFacts.{State, StateFacts}
 use Rattle.invariant_text.specs.InvariantText.{block_end, block_line, block_text, invariant_text}
 use Rattle.invariant_text.specs.StateText.{state_lines}
 use Rattle.invariant_text.proofs.BlockReading.{blocks_later, line_of_block}
-use Rattle.invariant_reader.specs.BlockReaders.{ReadsReached, line_front}
+use Rattle.invariant_reader.specs.BlockReaders.{ReadsReached, line_prefix}
 use Rattle.invariant_reader.specs.Prefixes.{behind}
 use Rattle.invariant_reader.specs.Reading.{HasParts}
 use Rattle.invariant_reader.specs.ReadsBack.{ReadsBack}
@@ -22,15 +22,15 @@ use Rattle.invariant_reader.proofs.Repeats.{none_some, pair, read_of}
 
 -- ---- a block's line
 
-front_back : (at : ℕ) (text : List ℕ) (reached : Bool) (r : List ℕ) → text ≡ block_line at reached ++ r
-    → behind (line_front at) text ≡ Some (block_end reached ++ r)
-front_back at text reached r same =
-    ap (behind (line_front at)) (same ∙ line_of_block at reached r
+prefix_back : (at : ℕ) (text : List ℕ) (reached : Bool) (r : List ℕ) → text ≡ block_line at reached ++ r
+    → behind (line_prefix at) text ≡ Some (block_end reached ++ r)
+prefix_back at text reached r same =
+    ap (behind (line_prefix at)) (same ∙ line_of_block at reached r
     ∙ sym (append_assoc (codes "  block ") (label at) (block_end reached ++ r)))
-    ∙ behind_itself (line_front at) (block_end reached ++ r)
+    ∙ behind_itself (line_prefix at) (block_end reached ++ r)
 
-pub front_missed : (at : ℕ) (text : List ℕ) → None ≡ behind (line_front at) text → ReadsReached at text None
-front_missed at text none reached r same = absurd (none_some (none ∙ front_back at text reached r same))
+pub prefix_missed : (at : ℕ) (text : List ℕ) → None ≡ behind (line_prefix at) text → ReadsReached at text None
+prefix_missed at text none reached r same = absurd (none_some (none ∙ prefix_back at text reached r same))
 
 -- The line's end tells whether the block is reached.
 end_reached : (reached : Bool) (r rest : List ℕ) → Some rest ≡ behind (codes "\n") (block_end reached ++ r)
@@ -38,10 +38,10 @@ end_reached : (reached : Bool) (r rest : List ℕ) → Some rest ≡ behind (cod
 end_reached true r rest some = ap (λ (t : List ℕ). Some (pair true t)) (read_of some)
 end_reached false r rest some = absurd (none_some (sym some))
 
-pub reached_read : (at : ℕ) (text left rest : List ℕ) → Some left ≡ behind (line_front at) text
+pub reached_read : (at : ℕ) (text left rest : List ℕ) → Some left ≡ behind (line_prefix at) text
     → Some rest ≡ behind (codes "\n") left → ReadsReached at text (Some (pair true rest))
 reached_read at text left rest begun some reached r same =
-    end_reached reached r rest (some ∙ ap (behind (codes "\n")) (read_of (begun ∙ front_back at text reached r same)))
+    end_reached reached r rest (some ∙ ap (behind (codes "\n")) (read_of (begun ∙ prefix_back at text reached r same)))
 
 end_unreached : (reached : Bool) (r : List ℕ) (read : Option (List ℕ)) → None ≡ behind (codes "\n") (block_end reached ++ r)
     → read ≡ behind (codes " unreachable\n") (block_end reached ++ r) → read ≡ Some r
@@ -52,18 +52,18 @@ false_end : (reached : Bool) (r : List ℕ) → None ≡ behind (codes "\n") (bl
 false_end true r none = absurd (none_some none)
 false_end false r none = refl
 
-pub end_missed : (at : ℕ) (text left : List ℕ) → Some left ≡ behind (line_front at) text
+pub end_missed : (at : ℕ) (text left : List ℕ) → Some left ≡ behind (line_prefix at) text
     → None ≡ behind (codes "\n") left → None ≡ behind (codes " unreachable\n") left → ReadsReached at text None
 end_missed at text left begun no_feed none reached r same =
-    let left_is = read_of (begun ∙ front_back at text reached r same) in
+    let left_is = read_of (begun ∙ prefix_back at text reached r same) in
     absurd (none_some (end_unreached reached r None (no_feed ∙ ap (behind (codes "\n")) left_is)
     (none ∙ ap (behind (codes " unreachable\n")) left_is)))
 
-pub unreached_read : (at : ℕ) (text left rest : List ℕ) → Some left ≡ behind (line_front at) text
+pub unreached_read : (at : ℕ) (text left rest : List ℕ) → Some left ≡ behind (line_prefix at) text
     → None ≡ behind (codes "\n") left → Some rest ≡ behind (codes " unreachable\n") left
     → ReadsReached at text (Some (pair false rest))
 unreached_read at text left rest begun no_feed some reached r same =
-    let left_is = read_of (begun ∙ front_back at text reached r same) in
+    let left_is = read_of (begun ∙ prefix_back at text reached r same) in
     let none = no_feed ∙ ap (behind (codes "\n")) left_is in
     let rest_is : rest ≡ r =
     read_of (end_unreached reached r (Some rest) none (some ∙ ap (behind (codes " unreachable\n")) left_is)) in

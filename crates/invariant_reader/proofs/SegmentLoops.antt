@@ -58,7 +58,7 @@ exprs_head : (text : List ℕ) (bound : List Expr) (behind : List ℕ) → IsCod
 exprs_head text [] behind is ends same = absurd (omega (arith, is.some))
 exprs_head text (e ∷ es) behind is ends same =
     let rest : flat_map next_expr es ++ behind ≡ numbered exprs_loop.text_of 0 es ++ behind =
-    ap (λ (front : List ℕ). front ++ behind) (flat_numbered next_expr 0 es) in
+    ap (λ (prefix : List ℕ). prefix ++ behind) (flat_numbered next_expr 0 es) in
     record {
       item = e;
       items = es;
@@ -144,7 +144,7 @@ segments_head : (text : List ℕ) (head : Option (List Expr × List ℕ)) → Re
 segments_head text head reads s behind is ends same =
     let first = get_or s.bounds 0 [] in
     let rest : flat_map text_of (each_of s) ++ behind ≡ numbered segments_loop.text_of 0 (each_of s) ++ behind =
-    ap (λ (front : List ℕ). front ++ behind) (flat_numbered text_of 0 (each_of s)) in
+    ap (λ (prefix : List ℕ). prefix ++ behind) (flat_numbered text_of 0 (each_of s)) in
     record {
       item = first;
       items = each_of s;

@@ -16,21 +16,21 @@ use Rattle.invariant_reader.proofs.Repeats.{none_some, pair, read_of}
 
 -- ---- a bound
 
-bound_front : (text : List ℕ) (bound : List Expr) (r : List ℕ) → text ≡ bound_text bound ++ r
+bound_prefix : (text : List ℕ) (bound : List Expr) (r : List ℕ) → text ≡ bound_text bound ++ r
     → behind (codes " {") text ≡ Some (exprs_text bound ++ 125 ∷ r)
-bound_front text bound r same = ap (behind (codes " {")) (same ∙ bound_parts bound r)
+bound_prefix text bound r same = ap (behind (codes " {")) (same ∙ bound_parts bound r)
 
 brace_ends : (r : List ℕ) → EndsBound (125 ∷ r)
 brace_ends r = record { expr = record { no_digit = refl; not_added = refl }; last = refl }
 
 pub bound_unbegun : (text : List ℕ) → None ≡ behind (codes " {") text → ReadsBack bound_text IsCodeBound AnyEnd text None
-bound_unbegun text none bound r is ends same = absurd (none_some (none ∙ bound_front text bound r same))
+bound_unbegun text none bound r is ends same = absurd (none_some (none ∙ bound_prefix text bound r same))
 
 exprs_of : (text left : List ℕ) (read : Option (List Expr × List ℕ)) → Some left ≡ behind (codes " {") text
     → ReadsBack exprs_text IsCodeBound EndsBound left read → (bound : List Expr) (r : List ℕ) → IsCodeBound bound
     → text ≡ bound_text bound ++ r → read ≡ Some (bound, 125 ∷ r)
 exprs_of text left read begun reads bound r is same =
-    reads bound (125 ∷ r) is (brace_ends r) (read_of (begun ∙ bound_front text bound r same))
+    reads bound (125 ∷ r) is (brace_ends r) (read_of (begun ∙ bound_prefix text bound r same))
 
 pub exprs_missed : (text left : List ℕ) (read : Option (List Expr × List ℕ)) → Some left ≡ behind (codes " {") text
     → ReadsBack exprs_text IsCodeBound EndsBound left read → None ≡ read
@@ -60,14 +60,14 @@ bound_read text left read exprs next last begun reads some ended bound r is ends
 abbrev behind_range : Segment → List ℕ → List ℕ
 behind_range s r = mark_text s.1.0 ++ (bound_text s.1.1 ++ r)
 
-segment_front : (text : List ℕ) (s : Segment) (r : List ℕ) → text ≡ text_of s ++ r
+segment_prefix : (text : List ℕ) (s : Segment) (r : List ℕ) → text ≡ text_of s ++ r
     → behind (codes " ") text ≡ Some (range_text s.0 ++ behind_range s r)
-segment_front text s r same = ap (behind (codes " ")) (same ∙ segment_parts s r)
+segment_prefix text s r same = ap (behind (codes " ")) (same ∙ segment_parts s r)
 
 range_of : (text left : List ℕ) → Some left ≡ behind (codes " ") text → (s : Segment) (r : List ℕ) → IsCodeSegment s
     → text ≡ text_of s ++ r → read_range left ≡ Some (s.0, behind_range s r)
 range_of text left begun s r is same =
-    ap read_range (read_of (begun ∙ segment_front text s r same))
+    ap read_range (read_of (begun ∙ segment_prefix text s r same))
     ∙ range_reads s.0 (behind_range s r) is.0 (range_ends s.1.0 s.1.1 r)
 
 mark_back : (mark : Bool) (bound : List Expr) (r : List ℕ)
@@ -76,7 +76,7 @@ mark_back true bound r = refl
 mark_back false bound r = rw (bound_parts bound r) refl
 
 pub segment_unbegun : (text : List ℕ) → None ≡ behind (codes " ") text → ReadsBack text_of IsCodeSegment AnyEnd text None
-segment_unbegun text none s r is ends same = absurd (none_some (none ∙ segment_front text s r same))
+segment_unbegun text none s r is ends same = absurd (none_some (none ∙ segment_prefix text s r same))
 
 pub range_missed : (text left : List ℕ) → Some left ≡ behind (codes " ") text → None ≡ read_range left
     → ReadsBack text_of IsCodeSegment AnyEnd text None

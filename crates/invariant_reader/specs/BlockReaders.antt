@@ -6,8 +6,8 @@ use Rattle.invariant_text.specs.InvariantText.{block_line, invariant_text}
 use Rattle.state_facts.specs.StateFacts.{State}
 
 -- The line of a block up to what it says of being reached.
-abbrev pub line_front : ℕ → List ℕ
-line_front at = codes "  block " ++ label at
+abbrev pub line_prefix : ℕ → List ℕ
+line_prefix at = codes "  block " ++ label at
 
 -- Of the line of the block that starts at an IL offset, what it says is read, and the rest is left.
 abbrev pub ReadsReached : ℕ → List ℕ → Option (Bool × List ℕ) → Type 0

@@ -10,7 +10,7 @@ use Rattle.invariant_reader.specs.Prefixes.{and_then, behind}
 abbrev pub at_most : Expr → ℕ → BoundRow
 at_most e t = record { s = e.sym; t = t; k = e.k }
 
--- The line at the front.
+-- The line at the start.
 unfoldable pub read_bound_line : List ℕ → Option (BoundRow × List ℕ)
 read_bound_line text =
     and_then (behind (codes "    ") text) (λ lower. and_then (read_expr lower) (λ e.

@@ -18,7 +18,7 @@ def_of operators.Less a b = Lt a b
 def_of operators.LessUnsigned a b = LtUn a b
 def_of operators.Minus a b = Sub a b
 
--- The operator at the front.
+-- The operator at the start.
 unfoldable pub read_operator : List ℕ → Option (Operator × List ℕ)
 read_operator text =
     or_else (behind (codes " == ") text) (λ rest. Some (operators.Equal, rest))
@@ -47,7 +47,7 @@ read_null_test text =
 unfoldable pub read_def : List ℕ → Option (Def × List ℕ)
 read_def text = if begins_reference text then read_null_test text else read_both text
 
--- The line at the front.
+-- The line at the start.
 unfoldable pub read_definition_line : List ℕ → Option ((ℕ × Def) × List ℕ)
 read_definition_line text =
     and_then (behind (codes "    s") text) (λ name. and_then (read_short name) (λ s.

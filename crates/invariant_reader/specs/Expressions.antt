@@ -32,7 +32,7 @@ read_sum text = and_then (read_short text) (λ s. and_then (read_added s.1) (λ 
 unfoldable pub read_first_sum : List ℕ → Option (Expr × List ℕ)
 read_first_sum text = and_then (read_short text) (λ s. and_then (read_first_added s.1) (λ k. Some (expr s.0 k.0, k.1)))
 
--- The expression at the front.
+-- The expression at the start.
 unfoldable pub read_expr : List ℕ → Option (Expr × List ℕ)
 read_expr text = or_else (behind (codes "s") text) read_sum (read_constant text)
 

@@ -4,7 +4,7 @@ use Rattle.alias_facts.specs.PairsOf.{Pair}
 use Rattle.invariant_reader.specs.Prefixes.{and_then, behind}
 use Rattle.invariant_reader.specs.References.{read_reference}
 
--- The line at the front.
+-- The line at the start.
 unfoldable pub read_apart_line : List ℕ → Option (Pair × List ℕ)
 read_apart_line text =
     and_then (behind (codes "    ") text) (λ first. and_then (read_reference first) (λ r.

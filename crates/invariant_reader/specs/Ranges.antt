@@ -11,7 +11,7 @@ read_hole text =
     or_else (behind (codes " not ") text) (λ hole. and_then (read_signed hole) (λ z. Some (Some z.0, z.1)))
     (Some (None, text))
 
--- The range at the front.
+-- The range at the start.
 unfoldable pub read_range : List ℕ → Option (Interval × List ℕ)
 read_range text =
     and_then (read_signed text) (λ lo. and_then (behind (codes "..") lo.1) (λ greatest.

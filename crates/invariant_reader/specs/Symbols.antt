@@ -5,7 +5,7 @@ use Rattle.invariant_text.proofs.NumberReading.{behind_digits}
 use Rattle.invariant_reader.specs.Prefixes.{and_then, behind}
 use Rattle.invariant_reader.specs.Ranges.{read_range}
 
--- The line at the front. Its symbol is not kept.
+-- The line at the start. Its symbol is not kept.
 unfoldable pub read_symbol_line : List ℕ → Option (Interval × List ℕ)
 read_symbol_line text =
     and_then (behind (codes "    s") text) (λ name. and_then (behind (codes " in ") (behind_digits name)) (λ within.

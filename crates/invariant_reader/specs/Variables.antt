@@ -37,7 +37,7 @@ read_value text =
     or_else (behind (codes "text") text) (λ rest. Some (vars.Text, rest))
     (if begins_reference text then read_place text else read_number text)
 
--- The line at the front. Its variable's name is not kept.
+-- The line at the start. Its variable's name is not kept.
 unfoldable pub read_variable_line : List ℕ → Option (Var × List ℕ)
 read_variable_line text =
     and_then (behind (codes "    ") text) (λ name. and_then (behind_name name) (λ equals.

@@ -2,7 +2,7 @@
 
 ghost use Rattle.std.specs.Prelude.{◌≡◌, length, option_map, IfOk, IfSome};
 ghost use Rattle.std.specs.List.{AllByRecursion};
-ghost use Rattle.invariant_reader.specs.BlockReaders.{HasText, ReadsReached, line_front};
+ghost use Rattle.invariant_reader.specs.BlockReaders.{HasText, ReadsReached, line_prefix};
 ghost use Rattle.invariant_reader.specs.Reading.{HasParts, IsReadAs};
 ghost use Rattle.invariant_reader.specs.StateReaders.{ReadsBlock, ReadsBlocks};
 ghost use Rattle.invariant_text.specs.Shape.{IsPrintableState};
@@ -17,20 +17,20 @@ use invariant_text::invariant_text;
 use std::alloc::{AllocError, Global};
 
 /// The line of the block that starts at an IL offset, up to what it says of being reached.
-fn line_front(alloc: Global, at: u32) -> Result<Vec<u8>, NoMemory>
-    ensures { IfOk result (λ front. front.items ≡ line_front at) }
+fn line_prefix(alloc: Global, at: u32) -> Result<Vec<u8>, NoMemory>
+    ensures { IfOk result (λ prefix. prefix.items ≡ line_prefix at) }
 {
-    let mut front = Vec::from_slice(alloc, b"  block ")?;
-    put_label(alloc, &mut front, at)?;
-    Ok(front)
+    let mut prefix = Vec::from_slice(alloc, b"  block ")?;
+    put_label(alloc, &mut prefix, at)?;
+    Ok(prefix)
 }
 
 /// Whether the line of the block that starts at an IL offset says that it is reached, and what is behind the line.
 fn read_reached(alloc: Global, at: u32, text: &[u8]) -> Result<Option<(bool, &[u8])>, NoMemory>
     ensures { IfOk result (λ read. ReadsReached at text.now (option_map (λ it. (it.0, it.1.now)) read)) }
 {
-    let front = line_front(alloc, at)?;
-    let Some(left) = behind(text, &front) else {
+    let prefix = line_prefix(alloc, at)?;
+    let Some(left) = behind(text, &prefix) else {
         return Ok(None);
     };
     if let Some(left) = behind(left, b"\n") {

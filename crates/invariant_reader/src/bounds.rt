@@ -20,7 +20,7 @@ fn at_most(lower: Expr, t: u32) -> BoundRow
     }
 }
 
-/// The line of a bound at the front of a text, and the text behind it.
+/// The line of a bound at the start of a text, and the text behind it.
 #[tactic(auto, unfolding(crate::specs::Bounds::read_bound_line))]
 pub(crate) fn read_bound_line(text: &[u8]) -> Option<(BoundRow, &[u8])>
     ensures { option_map (λ read. (read.0, read.1.now)) result ≡ read_bound_line text.now }

@@ -34,7 +34,7 @@ impl Operator {
     }
 }
 
-/// The operator at the front of a text, and the text behind it.
+/// The operator at the start of a text, and the text behind it.
 #[tactic(auto, unfolding(crate::specs::Definitions::read_operator))]
 fn read_operator(text: &[u8]) -> Option<(Operator, &[u8])>
     ensures { option_map (λ read. (read.0, read.1.now)) result ≡ read_operator text.now }
@@ -98,7 +98,7 @@ fn read_def(text: &[u8]) -> Option<(Def, &[u8])>
     }
 }
 
-/// The line of a definition at the front of a text, and the text behind it.
+/// The line of a definition at the start of a text, and the text behind it.
 #[tactic(auto, unfolding(crate::specs::Definitions::read_definition_line))]
 pub(crate) fn read_definition_line(text: &[u8]) -> Option<((u32, Def), &[u8])>
     ensures { option_map (λ read. (read.0, read.1.now)) result ≡ read_definition_line text.now }

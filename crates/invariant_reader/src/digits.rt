@@ -7,7 +7,7 @@ ghost use Rattle.invariant_reader.specs.Numbers.{read_short, read_signed, short,
 
 use crate::prefixes::behind;
 
-/// The text behind the digits at its front.
+/// The text behind the digits at its start.
 pub(crate) fn skip_digits(text: &[u8]) -> &[u8]
     ensures { result.now ≡ behind_digits text.now }
 {
@@ -33,7 +33,7 @@ fn with_digit(n: u64, digit: u8) -> Option<u64>
     n.checked_mul(10)?.checked_add(u64::from(digit - b'0'))
 }
 
-/// The number of 64 bits at the front of a text, and the text behind it.
+/// The number of 64 bits at the start of a text, and the text behind it.
 #[tactic(auto, unfolding(crate::specs::Numbers::read_decimal))]
 pub(crate) fn read_decimal(text: &[u8]) -> Option<(u64, &[u8])>
     ensures { option_map (λ read. (read.0, read.1.now)) result ≡ read_decimal text.now }
@@ -57,7 +57,7 @@ fn short(n: u64) -> Option<u32>
     u32::try_from(n).ok()
 }
 
-/// The number of 32 bits at the front of a text, and the text behind it.
+/// The number of 32 bits at the start of a text, and the text behind it.
 #[tactic(auto, unfolding(crate::specs::Numbers::read_short))]
 pub(crate) fn read_short(text: &[u8]) -> Option<(u32, &[u8])>
     ensures { option_map (λ read. (read.0, read.1.now)) result ≡ read_short text.now }
@@ -80,7 +80,7 @@ fn negative(n: u64) -> Option<i64>
     0i64.checked_sub_unsigned(n)
 }
 
-/// The number at the front of a text, and the text behind it.
+/// The number at the start of a text, and the text behind it.
 #[tactic(auto, unfolding(crate::specs::Numbers::read_positive))]
 pub(crate) fn read_positive(text: &[u8]) -> Option<(i64, &[u8])>
     ensures { option_map (λ read. (read.0, read.1.now)) result ≡ read_positive text.now }
@@ -89,7 +89,7 @@ pub(crate) fn read_positive(text: &[u8]) -> Option<(i64, &[u8])>
     Some((positive(n)?, rest))
 }
 
-/// The number below 0 whose digits are at the front of a text, and the text behind it.
+/// The number below 0 whose digits are at the start of a text, and the text behind it.
 #[tactic(auto, unfolding(crate::specs::Numbers::read_negative))]
 pub(crate) fn read_negative(text: &[u8]) -> Option<(i64, &[u8])>
     ensures { option_map (λ read. (read.0, read.1.now)) result ≡ read_negative text.now }
@@ -98,7 +98,7 @@ pub(crate) fn read_negative(text: &[u8]) -> Option<(i64, &[u8])>
     Some((negative(n)?, rest))
 }
 
-/// The signed number of 64 bits at the front of a text, and the text behind it.
+/// The signed number of 64 bits at the start of a text, and the text behind it.
 #[tactic(auto, unfolding(crate::specs::Numbers::read_signed))]
 pub(crate) fn read_signed(text: &[u8]) -> Option<(i64, &[u8])>
     ensures { option_map (λ read. (read.0, read.1.now)) result ≡ read_signed text.now }

@@ -74,7 +74,7 @@ fn read_first_sum(text: &[u8]) -> Option<(Expr, &[u8])>
     Some((Expr { sym, k }, rest))
 }
 
-/// The expression at the front of a text, and the text behind it.
+/// The expression at the start of a text, and the text behind it.
 #[tactic(auto, unfolding(crate::specs::Expressions::read_expr))]
 pub(crate) fn read_expr(text: &[u8]) -> Option<(Expr, &[u8])>
     ensures { option_map (λ read. (read.0, read.1.now)) result ≡ read_expr text.now }

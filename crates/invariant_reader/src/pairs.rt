@@ -6,7 +6,7 @@ ghost use Rattle.invariant_reader.specs.Pairs.{read_apart_line};
 use crate::prefixes::behind;
 use crate::references::read_reference;
 
-/// The line of a pair at the front of a text, and the text behind it.
+/// The line of a pair at the start of a text, and the text behind it.
 #[tactic(auto, unfolding(crate::specs::Pairs::read_apart_line))]
 pub(crate) fn read_apart_line(text: &[u8]) -> Option<((u32, u32), &[u8])>
     ensures { option_map (λ read. (read.0, read.1.now)) result ≡ read_apart_line text.now }

@@ -20,7 +20,7 @@ fn read_hole(text: &[u8]) -> Option<(Option<i64>, &[u8])>
     Some((Some(hole), rest))
 }
 
-/// The range at the front of a text, and the text behind it.
+/// The range at the start of a text, and the text behind it.
 #[tactic(auto, unfolding(crate::specs::Ranges::read_range))]
 pub(crate) fn read_range(text: &[u8]) -> Option<(Range, &[u8])>
     ensures { option_map (λ read. (read.0, read.1.now)) result ≡ read_range text.now }

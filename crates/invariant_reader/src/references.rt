@@ -14,7 +14,7 @@ pub(crate) fn begins_reference(text: &[u8]) -> bool
     matches!(text, [b'n' | b'r', ..])
 }
 
-/// The reference at the front of a text, and the text behind it.
+/// The reference at the start of a text, and the text behind it.
 #[tactic(auto, unfolding(crate::specs::References::read_reference))]
 pub(crate) fn read_reference(text: &[u8]) -> Option<(u32, &[u8])>
     ensures { option_map (λ read. (read.0, read.1.now)) result ≡ read_reference text.now }

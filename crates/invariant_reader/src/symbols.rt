@@ -8,7 +8,7 @@ use crate::prefixes::behind;
 use crate::ranges::read_range;
 use interval_domain::Range;
 
-/// The line of a symbol at the front of a text, and the text behind it. The symbol's number is not kept.
+/// The line of a symbol at the start of a text, and the text behind it. The symbol's number is not kept.
 #[tactic(auto, unfolding(crate::specs::Symbols::read_symbol_line))]
 pub(crate) fn read_symbol_line(text: &[u8]) -> Option<(Range, &[u8])>
     ensures { option_map (λ read. (read.0, read.1.now)) result ≡ read_symbol_line text.now }

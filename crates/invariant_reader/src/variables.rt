@@ -75,7 +75,7 @@ fn read_value(text: &[u8]) -> Option<(Var, &[u8])>
     }
 }
 
-/// The line of a variable at the front of a text, and the text behind it. The variable's name is not kept.
+/// The line of a variable at the start of a text, and the text behind it. The variable's name is not kept.
 #[tactic(auto, unfolding(crate::specs::Variables::read_variable_line))]
 pub(crate) fn read_variable_line(text: &[u8]) -> Option<(Var, &[u8])>
     ensures { option_map (λ read. (read.0, read.1.now)) result ≡ read_variable_line text.now }

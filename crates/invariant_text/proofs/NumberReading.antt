@@ -16,10 +16,10 @@ abbrev pub begins_digit : List ℕ → Bool
 begins_digit [] = false
 begins_digit (c ∷ cs) = is_digit c
 
--- The digits at the front, and what is behind them.
-abbrev pub front_digits : List ℕ → List ℕ
-front_digits [] = []
-front_digits (c ∷ cs) = if is_digit c then c ∷ front_digits cs else []
+-- The digits at the start, and what is behind them.
+abbrev pub prefix_digits : List ℕ → List ℕ
+prefix_digits [] = []
+prefix_digits (c ∷ cs) = if is_digit c then c ∷ prefix_digits cs else []
 
 abbrev pub behind_digits : List ℕ → List ℕ
 behind_digits [] = []
@@ -28,20 +28,20 @@ behind_digits (c ∷ cs) = if is_digit c then behind_digits cs else c ∷ cs
 digit_is : (c : ℕ) → 48 ≤ c → c ≤ 57 → is_digit c ≡ true
 digit_is c above below = rw (le-leb 48 c above, le-leb c 57 below)
 
-none_front : (r : List ℕ) → begins_digit r ≡ false → front_digits r ≡ []
-none_front [] none = refl
-none_front (c ∷ r) none = rw none
+none_prefix : (r : List ℕ) → begins_digit r ≡ false → prefix_digits r ≡ []
+none_prefix [] none = refl
+none_prefix (c ∷ r) none = rw none
 
 none_behind : (r : List ℕ) → begins_digit r ≡ false → behind_digits r ≡ r
 none_behind [] none = refl
 none_behind (c ∷ r) none = rw none
 
--- Digits, and then no more: the front and what is behind it are as they were put together.
-digits_front : (ds r : List ℕ) → AllDigits 10 ds → begins_digit r ≡ false → front_digits (ds ++ r) ≡ ds
-digits_front [] r all none = none_front r none
-digits_front (d ∷ ds) r all none =
+-- Digits, and then no more: the prefix and what is behind it are as they were put together.
+digits_prefix : (ds r : List ℕ) → AllDigits 10 ds → begins_digit r ≡ false → prefix_digits (ds ++ r) ≡ ds
+digits_prefix [] r all none = none_prefix r none
+digits_prefix (d ∷ ds) r all none =
     let range = digit_from_value d all.0 in
-    rw (digit_is d (omega (arith, range)) (omega (arith, range)), digits_front ds r all.1 none)
+    rw (digit_is d (omega (arith, range)) (omega (arith, range)), digits_prefix ds r all.1 none)
 
 digits_behind : (ds r : List ℕ) → AllDigits 10 ds → begins_digit r ≡ false → behind_digits (ds ++ r) ≡ r
 digits_behind [] r all none = none_behind r none
@@ -55,9 +55,9 @@ digits_begin (d ∷ ds) r all some =
     let range = digit_from_value d all.0 in
     digit_is d (omega (arith, range)) (omega (arith, range))
 
-pub number_front : (n : ℕ) (r : List ℕ) → n < 2 ^ 64 → begins_digit r ≡ false
-    → front_digits (decimal n ++ r) ≡ decimal n
-number_front n r fits none = digits_front (decimal n) r (decimal_is_IsNumeral n fits).0.1 none
+pub number_prefix : (n : ℕ) (r : List ℕ) → n < 2 ^ 64 → begins_digit r ≡ false
+    → prefix_digits (decimal n ++ r) ≡ decimal n
+number_prefix n r fits none = digits_prefix (decimal n) r (decimal_is_IsNumeral n fits).0.1 none
 
 pub number_behind : (n : ℕ) (r : List ℕ) → n < 2 ^ 64 → begins_digit r ≡ false → behind_digits (decimal n ++ r) ≡ r
 number_behind n r fits none = digits_behind (decimal n) r (decimal_is_IsNumeral n fits).0.1 none
@@ -70,7 +70,7 @@ pub number_read : (m n : ℕ) (r q : List ℕ) → m < 2 ^ 64 → n < 2 ^ 64 →
     → decimal m ++ r ≡ decimal n ++ q → (m ≡ n) × (r ≡ q)
 number_read m n r q m_fits n_fits r_none q_none same = (
   decimal_injective m n m_fits n_fits
-      (sym (number_front m r m_fits r_none) ∙ ap front_digits same ∙ number_front n q n_fits q_none),
+      (sym (number_prefix m r m_fits r_none) ∙ ap prefix_digits same ∙ number_prefix n q n_fits q_none),
   sym (number_behind m r m_fits r_none) ∙ ap behind_digits same ∙ number_behind n q n_fits q_none,
 )
 

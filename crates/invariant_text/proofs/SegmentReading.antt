@@ -42,7 +42,7 @@ exprs_read (x ∷ xs) (y ∷ ys) r q x_some y_some x_all y_all same =
     (next_end xs r) (next_end ys q)
     (sym (append_assoc (expr_text x) (flat_map next_expr xs) (125 ∷ r)) ∙ same ∙ append_assoc (expr_text y)
     (flat_map next_expr ys) (125 ∷ q)) in
-    let numbers = λ (zs : List Expr) (text : List ℕ). ap (λ (front : List ℕ). front ++ 125 ∷ text)
+    let numbers = λ (zs : List Expr) (text : List ℕ). ap (λ (prefix : List ℕ). prefix ++ 125 ∷ text)
     (flat_numbered next_expr 0 zs) in
     let others = items_read (λ (n : ℕ) (e : Expr). next_expr e) (λ n e. IsSmall e) EndsExpr (begins_with 44)
     next_exprs_read 0 xs ys (125 ∷ r) (125 ∷ q)
@@ -190,7 +190,7 @@ all_segments_read s t r q s_small t_small same =
     (first_small s.bounds (length s.contents) s_small.form.bounded s_small.bounds)
     (first_small t.bounds (length t.contents) t_small.form.bounded t_small.bounds)
     (sym (segments_parts s (10 ∷ r)) ∙ same ∙ segments_parts t (10 ∷ q)) in
-    let numbers = λ (u : Segments) (text : List ℕ). ap (λ (front : List ℕ). front ++ 10 ∷ text)
+    let numbers = λ (u : Segments) (text : List ℕ). ap (λ (prefix : List ℕ). prefix ++ 10 ∷ text)
     (flat_numbered text_of 0 (each_of u)) in
     let each = items_read (λ (n : ℕ) (s : Segment). text_of s) (λ n s. IsSmallSegment s) (λ text. Unit {0})
     (begins_with 32) segments_read 0

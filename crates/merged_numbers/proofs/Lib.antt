@@ -9,7 +9,7 @@ pub mod TightLaws
 pub mod InclusionLaws
 pub mod FormLaws
 pub mod ApartLaws
-pub mod Fronts
+pub mod Prefixes
 pub mod OwnLaws
 pub mod Laws
 pub mod RuleLaws

@@ -17,7 +17,7 @@ use Rattle.merged_numbers.specs.Rows.{IsTight}
 use Rattle.merged_numbers.specs.Merging.{is_constant, own_gap, own_span, ranges_of, row_of, rows_of, told, with_gap}
 use Rattle.merged_numbers.specs.Own.{AreOwn, range_of, says_more, tells_more}
 use Rattle.merged_numbers.proofs.ApartLaws.{by_row}
-use Rattle.merged_numbers.proofs.Fronts.{all_front, front, front_next, none_first, put_front, put_some, stored_itself, stored_so}
+use Rattle.merged_numbers.proofs.Prefixes.{all_prefix, prefix, prefix_next, none_first, put_prefix, put_some, stored_itself, stored_so}
 use Rattle.merged_numbers.proofs.RangeLists.{ranges_length}
 use Rattle.merged_numbers.proofs.RowLaws.{stored_tells}
 
@@ -129,24 +129,24 @@ record IsKept (a : Known) (keys : List Key) (ranges : List Interval) : Type 0 wh
   is : Some ranges ≡ ranges_of (own_span a) keys
   more : SayMore ranges a.bounds
 
-row_front : (a : Known) (keys : List Key) (ranges : List Interval) (i m : ℕ) → IsKept a keys ranges → i < length keys → m ≤ length keys
-    → row_of (own_gap a) keys ranges i m (front (i + 1) 1 a.bounds) ≡ front (i + 1) (m + 1) a.bounds
-row_front a keys ranges i zero kept inside upto = refl
-row_front a keys ranges i (suc j) kept inside upto =
-    let so_far = row_front a keys ranges i j kept inside (omega (arith, upto)) in
-    let here = own_put a keys ranges i j (front (i + 1) (j + 1) a.bounds) kept.tight kept.form kept.own kept.is kept.more inside (omega (arith, upto)) in
+row_prefix : (a : Known) (keys : List Key) (ranges : List Interval) (i m : ℕ) → IsKept a keys ranges → i < length keys → m ≤ length keys
+    → row_of (own_gap a) keys ranges i m (prefix (i + 1) 1 a.bounds) ≡ prefix (i + 1) (m + 1) a.bounds
+row_prefix a keys ranges i zero kept inside upto = refl
+row_prefix a keys ranges i (suc j) kept inside upto =
+    let so_far = row_prefix a keys ranges i j kept inside (omega (arith, upto)) in
+    let here = own_put a keys ranges i j (prefix (i + 1) (j + 1) a.bounds) kept.tight kept.form kept.own kept.is kept.more inside (omega (arith, upto)) in
     ap (with_gap (told ranges i j) i j (own_gap a (get_or keys i origin) (get_or keys j origin))) so_far ∙ here
-    ∙ put_front a.bounds (i + 1) (j + 1) kept.form ∙ ap (λ n. front (i + 1) (n + 1) a.bounds) (add-one j)
+    ∙ put_prefix a.bounds (i + 1) (j + 1) kept.form ∙ ap (λ n. prefix (i + 1) (n + 1) a.bounds) (add-one j)
 
-rows_front : (a : Known) (keys : List Key) (ranges : List Interval) (m : ℕ) → IsKept a keys ranges → m ≤ length keys
-    → rows_of (own_gap a) keys ranges m [] ≡ front (m + 1) 1 a.bounds
-rows_front a keys ranges zero kept upto = sym (none_first a.bounds kept.form)
-rows_front a keys ranges (suc i) kept upto =
-    let so_far = rows_front a keys ranges i kept (omega (arith, upto)) in
+rows_prefix : (a : Known) (keys : List Key) (ranges : List Interval) (m : ℕ) → IsKept a keys ranges → m ≤ length keys
+    → rows_of (own_gap a) keys ranges m [] ≡ prefix (m + 1) 1 a.bounds
+rows_prefix a keys ranges zero kept upto = sym (none_first a.bounds kept.form)
+rows_prefix a keys ranges (suc i) kept upto =
+    let so_far = rows_prefix a keys ranges i kept (omega (arith, upto)) in
     let count : length ranges ≡ length keys = ranges_length (own_span a) keys ranges (sym kept.is) in
     let below : AllByRecursion (AreBelow (length keys + 1)) a.bounds = rw count at (all_below ranges a.bounds kept.more) in
-    ap (row_of (own_gap a) keys ranges i (length keys)) so_far ∙ row_front a keys ranges i (length keys) kept (omega (arith, upto)) (omega arith)
-    ∙ front_next a.bounds (i + 1) (length keys) kept.form below ∙ ap (λ n. front (n + 1) 1 a.bounds) (add-one i)
+    ap (row_of (own_gap a) keys ranges i (length keys)) so_far ∙ row_prefix a keys ranges i (length keys) kept (omega (arith, upto)) (omega arith)
+    ∙ prefix_next a.bounds (i + 1) (length keys) kept.form below ∙ ap (λ n. prefix (n + 1) 1 a.bounds) (add-one i)
 
 -- The bounds of the normal form are those of the state.
 pub kept_bounds : (a : Known) (keys : List Key) (ranges : List Interval) → IsTight a → AreBounds a.bounds → AreOwn keys
@@ -156,4 +156,4 @@ kept_bounds a keys ranges tight form own is more =
     let kept : IsKept a keys ranges = record { tight = tight; form = form; own = own; is = is; more = each_says ranges a.bounds more } in
     let count : length ranges ≡ length keys = ranges_length (own_span a) keys ranges (sym is) in
     let below : AllByRecursion (AreBelow (length keys + 1)) a.bounds = rw count at (all_below ranges a.bounds kept.more) in
-    sym (rows_front a keys ranges (length keys) kept (omega arith) ∙ all_front a.bounds (length keys) below)
+    sym (rows_prefix a keys ranges (length keys) kept (omega arith) ∙ all_prefix a.bounds (length keys) below)

@@ -26,8 +26,8 @@ use Rattle.metadata_tables.proofs.HeapLemmas.{streams-sound, tables-sound}
 use Rattle.metadata_tables.proofs.FieldLemmas.{fields-fits, fields-short}
 
 -- Of fields that all fit, the first does.
-front-fits : (end : ℕ) (fault : ℕ → TableFault) (at w : ℕ) (widths : List ℕ) → first_of (fields end fault at (w ∷ widths)) ≡ None → at + w ≤ end
-front-fits end fault at w widths e =
+prefix-fits : (end : ℕ) (fault : ℕ → TableFault) (at w : ℕ) (widths : List ℕ) → first_of (fields end fault at (w ∷ widths)) ≡ None → at + w ≤ end
+prefix-fits end fault at w widths e =
     elim (cases_lt end (at + w)) [
       | inl past ↦
           let failed = fields-short end fault at w widths past in
@@ -39,9 +39,9 @@ front-fits end fault at w widths e =
 run-row : (count end : ℕ) (fault : ℕ → TableFault) (at w row : ℕ) → row < count
     → first_of (fields end fault at (replicate count w)) ≡ None → at + row * w + w ≤ end
 run-row zero end fault at w row h e = absurd (omega arith)
-run-row (suc count) end fault at w zero h e = omega (arith, front-fits end fault at w (replicate count w) e)
+run-row (suc count) end fault at w zero h e = omega (arith, prefix-fits end fault at w (replicate count w) e)
 run-row (suc count) end fault at w (suc row) h e =
-    let fit = front-fits end fault at w (replicate count w) e in
+    let fit = prefix-fits end fault at w (replicate count w) e in
     let later = run-row count end fault (at + w) w row (omega arith) (sym (fields-fits end fault at w (replicate count w) fit) ∙ e) in
     omega arith
 

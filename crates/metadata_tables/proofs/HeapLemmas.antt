@@ -51,11 +51,11 @@ unfolding user_string_at
 user_string_at-is md strings rest index r kept from is = is ∙ ap item_of (from ∙ ap (drop index) kept)
 
 pub blob_offset-is : (md blob rest : List ℕ) (index begin : ℕ) (o : Option Compressed) → blob ≡ heap md (codes "#Blob") → begin ≡ start_of (stream md (codes "#Blob"))
-    → rest ≡ drop index blob → o ≡ whole_length rest → option_map (λ front. begin + index + front.width) o ≡ blob_offset md index
+    → rest ≡ drop index blob → o ≡ whole_length rest → option_map (λ prefix. begin + index + prefix.width) o ≡ blob_offset md index
 unfolding blob_offset
 blob_offset-is md blob rest index begin o kept start from is =
-    let front : o ≡ whole_length (drop index (heap md (codes "#Blob"))) = is ∙ ap whole_length (from ∙ ap (drop index) kept) in
-    rw (front, start) refl
+    let prefix : o ≡ whole_length (drop index (heap md (codes "#Blob"))) = is ∙ ap whole_length (from ∙ ap (drop index) kept) in
+    rw (prefix, start) refl
 
 -- The first fault of all.
 pub fault-streams : (md : List ℕ) (fault : TableFault) → first_of (streams_tests md) ≡ Some fault → first_table_fault md ≡ Some fault
@@ -92,40 +92,40 @@ take-own xs item len h e =
     let same : length item ≡ len = ap length e ∙ length-take-le len xs h in
     e ∙ ap (λ (k : ℕ). take k xs) (sym same)
 
-stands-in : (md : List ℕ) (o : Option Stream) (index : ℕ) (front : Compressed) → 1 ≤ front.width
-    → front.width + front.number ≤ length (drop index (bytes_of md o)) → start_of o + length (bytes_of md o) ≤ length md
-    → StandsAt md (start_of o + index + front.width) (take front.number (drop front.width (drop index (bytes_of md o))))
-stands-in md None index front written whole within = absurd (omega (arith, length-drop index (bytes_of md None)))
-stands-in md (Some s) index front written whole within =
+stands-in : (md : List ℕ) (o : Option Stream) (index : ℕ) (prefix : Compressed) → 1 ≤ prefix.width
+    → prefix.width + prefix.number ≤ length (drop index (bytes_of md o)) → start_of o + length (bytes_of md o) ≤ length md
+    → StandsAt md (start_of o + index + prefix.width) (take prefix.number (drop prefix.width (drop index (bytes_of md o))))
+stands-in md None index prefix written whole within = absurd (omega (arith, length-drop index (bytes_of md None)))
+stands-in md (Some s) index prefix written whole within =
     let long = length-drop index (bytes_of md (Some s)) in
     let size = length-take s.size (drop s.at md) in
-    let behind = length-drop (s.at + index + front.width) md in
-    take-own (drop (s.at + index + front.width) md) (take front.number (drop front.width (drop index (bytes_of md (Some s))))) front.number (omega arith)
-    (part-of md s.at s.size index front.width front.number (omega arith))
+    let behind = length-drop (s.at + index + prefix.width) md in
+    take-own (drop (s.at + index + prefix.width) md) (take prefix.number (drop prefix.width (drop index (bytes_of md (Some s))))) prefix.number (omega arith)
+    (part-of md s.at s.size index prefix.width prefix.number (omega arith))
 
-blob_at-found : (md : List ℕ) (index : ℕ) (front : Compressed) → whole_length (drop index (heap md (codes "#Blob"))) ≡ Some front
-    → blob_at md index ≡ Some (take front.number (drop front.width (drop index (heap md (codes "#Blob")))))
+blob_at-found : (md : List ℕ) (index : ℕ) (prefix : Compressed) → whole_length (drop index (heap md (codes "#Blob"))) ≡ Some prefix
+    → blob_at md index ≡ Some (take prefix.number (drop prefix.width (drop index (heap md (codes "#Blob")))))
 unfolding blob_at item_of
-blob_at-found md index front e = rw e refl
+blob_at-found md index prefix e = rw e refl
 
 -- The item stands at the place that is told.
-pub stands-is : (md blob rest : List ℕ) (index begin : ℕ) (front : Compressed) → first_table_fault md ≡ None → blob ≡ heap md (codes "#Blob")
-    → begin ≡ start_of (stream md (codes "#Blob")) → rest ≡ drop index blob → Some front ≡ whole_length rest → 1 ≤ front.width
-    → front.width + front.number ≤ length rest → IfSome (blob_at md index) (λ item. StandsAt md (begin + index + front.width) item)
+pub stands-is : (md blob rest : List ℕ) (index begin : ℕ) (prefix : Compressed) → first_table_fault md ≡ None → blob ≡ heap md (codes "#Blob")
+    → begin ≡ start_of (stream md (codes "#Blob")) → rest ≡ drop index blob → Some prefix ≡ whole_length rest → 1 ≤ prefix.width
+    → prefix.width + prefix.number ≤ length rest → IfSome (blob_at md index) (λ item. StandsAt md (begin + index + prefix.width) item)
 unfolding heap
-stands-is md blob rest index begin front sound kept start from is written whole =
+stands-is md blob rest index begin prefix sound kept start from is written whole =
     let same : rest ≡ drop index (heap md (codes "#Blob")) = from ∙ ap (drop index) kept in
-    let found = blob_at-found md index front (sym (is ∙ ap whole_length same)) in
-    rw (found, start) (stands-in md (stream md (codes "#Blob")) index front written (subst (λ (xs : List ℕ). front.width + front.number ≤ length xs) same whole) (heap-end md (codes "#Blob") sound))
+    let found = blob_at-found md index prefix (sym (is ∙ ap whole_length same)) in
+    rw (found, start) (stands-in md (stream md (codes "#Blob")) index prefix written (subst (λ (xs : List ℕ). prefix.width + prefix.number ≤ length xs) same whole) (heap-end md (codes "#Blob") sound))
 
 is_some-map : (f : Compressed → List ℕ) (o : Option Compressed) → is_some o ≡ is_some (option_map f o)
 is_some-map f None = refl
-is_some-map f (Some front) = refl
+is_some-map f (Some prefix) = refl
 
 pub lent-is : (md blob rest : List ℕ) (index : ℕ) (o : Option Compressed) → blob ≡ heap md (codes "#Blob") → rest ≡ drop index blob → o ≡ whole_length rest
     → is_some o ≡ is_some (blob_at md index)
 unfolding blob_at item_of
 lent-is md blob rest index o kept from is =
     let same : rest ≡ drop index (heap md (codes "#Blob")) = from ∙ ap (drop index) kept in
-    is_some-map (λ front. take front.number (drop front.width (drop index (heap md (codes "#Blob"))))) o
-    ∙ ap (λ (p : Option Compressed). is_some (option_map (λ front. take front.number (drop front.width (drop index (heap md (codes "#Blob"))))) p)) (is ∙ ap whole_length same)
+    is_some-map (λ prefix. take prefix.number (drop prefix.width (drop index (heap md (codes "#Blob"))))) o
+    ∙ ap (λ (p : Option Compressed). is_some (option_map (λ prefix. take prefix.number (drop prefix.width (drop index (heap md (codes "#Blob"))))) p)) (is ∙ ap whole_length same)

@@ -6,9 +6,9 @@ use Rattle.std.proofs.lemmas.Bool.{leb-true, cases_lt}
 use Rattle.metadata_tables.specs.declared.schema.Column.{Column}
 use Rattle.metadata_tables.specs.Schema.{schemas, columns_of}
 
-and-front : (a b : Bool) → (a && b) ≡ true → a ≡ true
-and-front true b e = refl
-and-front false b e = e
+and-prefix : (a b : Bool) → (a && b) ≡ true → a ≡ true
+and-prefix true b e = refl
+and-prefix false b e = e
 
 and-back : (a b : Bool) → (a && b) ≡ true → b ≡ true
 and-back true b e = e
@@ -22,7 +22,7 @@ now_at {A} references i d h = sym (get_or-map (λ (r : Bor (List A)). r.now) ref
 -- What each list of some lists does not pass, the one at a place does not pass.
 few_at : (lists : List (List Column)) (n i : ℕ) → list_all (λ columns. leb (length columns) n) lists ≡ true → length (get_or lists i []) ≤ n
 few_at [] n i e = omega arith
-few_at (columns ∷ lists) n zero e = leb-true (length columns) n (and-front _ _ e)
+few_at (columns ∷ lists) n zero e = leb-true (length columns) n (and-prefix _ _ e)
 few_at (columns ∷ lists) n (suc i) e = few_at lists n i (and-back _ _ e)
 
 -- No table has many columns.

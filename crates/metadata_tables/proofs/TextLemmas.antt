@@ -56,18 +56,18 @@ step-cons true byte c text a b same = refl
 step-cons false byte c text a b same = told-cons a byte c text ∙ ap (λ (t : Bool). eqb byte c && t) same ∙ sym (told-cons b byte c text)
 
 -- As many bytes as the text has, and one more, tell.
-front : (text bytes : List ℕ) → told (zero_ended (take (suc (length text)) bytes)) text ≡ told (zero_ended bytes) text
-front text [] = refl
-front [] (byte ∷ bytes) = rw (zero_ended-cons byte [], zero_ended-cons byte bytes) (step-nil (is_zero byte) byte (zero_ended []) (zero_ended bytes))
-front (c ∷ text) (byte ∷ bytes) =
+prefix : (text bytes : List ℕ) → told (zero_ended (take (suc (length text)) bytes)) text ≡ told (zero_ended bytes) text
+prefix text [] = refl
+prefix [] (byte ∷ bytes) = rw (zero_ended-cons byte [], zero_ended-cons byte bytes) (step-nil (is_zero byte) byte (zero_ended []) (zero_ended bytes))
+prefix (c ∷ text) (byte ∷ bytes) =
     rw (zero_ended-cons byte (take (suc (length text)) bytes), zero_ended-cons byte bytes)
-    (step-cons (is_zero byte) byte c text (zero_ended (take (suc (length text)) bytes)) (zero_ended bytes) (front text bytes))
+    (step-cons (is_zero byte) byte c text (zero_ended (take (suc (length text)) bytes)) (zero_ended bytes) (prefix text bytes))
 
-pub front_decides : (bytes text : List ℕ) (n : ℕ) → n ≡ min (length bytes) (length text + 1) → is_text bytes text ≡ told (zero_ended (take n bytes)) text
+pub prefix_decides : (bytes text : List ℕ) (n : ℕ) → n ≡ min (length bytes) (length text + 1) → is_text bytes text ≡ told (zero_ended (take n bytes)) text
 unfolding is_text
-front_decides bytes text n e =
+prefix_decides bytes text n e =
     elim (cases_lt (length text) (length bytes)) [
-      | inl lt ↦ let k : n ≡ suc (length text) = omega arith in rw k (sym (front text bytes))
+      | inl lt ↦ let k : n ≡ suc (length text) = omega arith in rw k (sym (prefix text bytes))
       | inr le ↦ let k : n ≡ length bytes = omega arith in rw (k, take_all (length bytes) bytes (omega arith)) refl
     ]
 

@@ -6,14 +6,14 @@ use Rattle.cc_base.specs.declared.compressed.Compressed.{Compressed}
 use Rattle.metadata_tables.specs.Layout.{start_of}
 use Rattle.metadata_tables.specs.Root.{stream, heap, zero_ended, is_text}
 
--- The compressed length at the front of an item that is there as a whole (II.23.2).
+-- The compressed length at the start of an item that is there as a whole (II.23.2).
 unfoldable pub whole_length : List ℕ → Option Compressed
 whole_length bytes =
-    option_and_then (λ front. if nat_le (front.width + front.number) (length bytes) then Some front else None) (result_ok (compressed bytes))
+    option_and_then (λ prefix. if nat_le (prefix.width + prefix.number) (length bytes) then Some prefix else None) (result_ok (compressed bytes))
 
--- The item at the front: as many bytes as its length says.
+-- The item at the start: as many bytes as its length says.
 unfoldable pub item_of : List ℕ → Option (List ℕ)
-item_of bytes = option_map (λ front. take front.number (drop front.width bytes)) (whole_length bytes)
+item_of bytes = option_map (λ prefix. take prefix.number (drop prefix.width bytes)) (whole_length bytes)
 
 -- The text at a place of `#Strings`.
 unfoldable pub string_at : List ℕ → ℕ → Option (List ℕ)
@@ -34,7 +34,7 @@ blob_at md index = item_of (drop index (heap md (codes "#Blob")))
 -- Where the bytes of that item stand in the metadata.
 unfoldable pub blob_offset : List ℕ → ℕ → Option ℕ
 blob_offset md index =
-    option_map (λ front. start_of (stream md (codes "#Blob")) + index + front.width) (whole_length (drop index (heap md (codes "#Blob"))))
+    option_map (λ prefix. start_of (stream md (codes "#Blob")) + index + prefix.width) (whole_length (drop index (heap md (codes "#Blob"))))
 
 -- The item at a place of `#US`.
 unfoldable pub user_string_at : List ℕ → ℕ → Option (List ℕ)

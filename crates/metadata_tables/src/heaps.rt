@@ -31,8 +31,8 @@ pub(crate) fn zero_ended(bytes: &[u8]) -> Option<&[u8]>
 pub(crate) fn is_text(bytes: &[u8], text: &[u8]) -> bool
     ensures { result ≡ is_text bytes.now text.now }
 {
-    let front = bytes.len().min(text.len() + 1);
-    match zero_ended(&bytes[..front]) {
+    let prefix = bytes.len().min(text.len() + 1);
+    match zero_ended(&bytes[..prefix]) {
         Some(found) => found == text,
         None => false,
     }
@@ -49,27 +49,27 @@ pub(crate) fn behind_last_zero(bytes: &[u8]) -> usize
     end
 }
 
-/// The length at the front of an item that is there as a whole (II.23.2).
+/// The length at the start of an item that is there as a whole (II.23.2).
 #[tactic(auto, unfolding(crate::specs::Heaps::whole_length))]
 pub(crate) fn whole_length(bytes: &[u8]) -> Option<Compressed>
     ensures value { result ≡ whole_length bytes.now }
-    ensures whole { IfSome result (λ front. front.width + front.number ≤ length bytes.now) }
-    ensures some { IfSome result (λ front. 1 ≤ front.width) }
+    ensures whole { IfSome result (λ prefix. prefix.width + prefix.number ≤ length bytes.now) }
+    ensures some { IfSome result (λ prefix. 1 ≤ prefix.width) }
 {
-    let front = compressed_number(bytes).ok()?;
-    if front.width as usize + front.number as usize <= bytes.len() {
-        Some(front)
+    let prefix = compressed_number(bytes).ok()?;
+    if prefix.width as usize + prefix.number as usize <= bytes.len() {
+        Some(prefix)
     } else {
         None
     }
 }
 
-/// The item at the front: as many bytes as its length says.
+/// The item at the start: as many bytes as its length says.
 #[tactic(auto, unfolding(crate::specs::Heaps::item_of))]
 pub(crate) fn item_of(bytes: &[u8]) -> Option<&[u8]>
     ensures { option_map (λ item. item.now) result ≡ item_of bytes.now }
 {
-    let front = whole_length(bytes)?;
-    let start = front.width as usize;
-    Some(&bytes[start..start + front.number as usize])
+    let prefix = whole_length(bytes)?;
+    let start = prefix.width as usize;
+    Some(&bytes[start..start + prefix.number as usize])
 }

@@ -51,7 +51,7 @@ struct Header<'a> {
 /// Where the first stream header stands.
 fn read_root(md: &[u8]) -> Result<usize, TableFault>
     requires { length md.now < 2 ^ 31 }
-    ensures fault_at_front { IfErr result (λ fault. offset_of fault ≡ 0) }
+    ensures fault_at_prefix { IfErr result (λ fault. offset_of fault ≡ 0) }
     ensures judged { Judges result (first_of (root_tests md.now)) (λ _. ⊤) }
     ensures place { IfOk result (λ at. at ≡ headers_at md.now) }
     ensures within { IfOk result (λ at. at ≤ length md.now) }
@@ -72,7 +72,7 @@ fn read_root(md: &[u8]) -> Result<usize, TableFault>
 fn read_header(md: &[u8], at: usize) -> Result<Header<'_>, TableFault>
     requires length { length md.now < 2 ^ 31 }
     requires place { at ≤ length md.now }
-    ensures fault_at_front { IfErr result (λ fault. offset_of fault ≡ 0) }
+    ensures fault_at_prefix { IfErr result (λ fault. offset_of fault ≡ 0) }
     ensures judged { Judges result (first_of (header_tests md.now at)) (λ _. ⊤) }
     ensures stream { IfOk result (λ header. header.stream ≡ stream_of md.now at) }
     ensures name { IfOk result (λ header. name_of md.now at ≡ Some header.name.now) }
@@ -111,7 +111,7 @@ fn first_named(found: Option<Stream>, wanted: &[u8], name: &[u8], stream: Stream
 fn read_headers(md: &[u8], first: usize, count: u16) -> Result<Found, TableFault>
     requires length { length md.now < 2 ^ 31 }
     requires place { first ≤ length md.now }
-    ensures fault_at_front { IfErr result (λ fault. offset_of fault ≡ 0) }
+    ensures fault_at_prefix { IfErr result (λ fault. offset_of fault ≡ 0) }
     ensures judged { Judges result (first_of (headers_tests md.now count first)) (λ _. ⊤) }
     ensures tables { IfOk result (λ found. found.tables ≡ stream_among md.now (codes "#~") count first) }
     ensures strings { IfOk result
@@ -143,7 +143,7 @@ fn read_headers(md: &[u8], first: usize, count: u16) -> Result<Found, TableFault
 /// The streams that have to be there, and `#US` where it is.
 #[tactic(auto, unfolding(crate::specs::Root::presence_of, cc_base::specs::Tests::first_of))]
 fn all_present(found: Found) -> Result<Streams, TableFault>
-    ensures fault_at_front { IfErr result (λ fault. offset_of fault ≡ 0) }
+    ensures fault_at_prefix { IfErr result (λ fault. offset_of fault ≡ 0) }
     ensures judged { Judges result (first_of (presence_of found.tables found.strings found.blob)) (λ _. ⊤) }
     ensures tables { IfOk result (λ streams. found.tables ≡ Some streams.tables) }
     ensures strings { IfOk result (λ streams. found.strings ≡ Some streams.strings) }
@@ -171,7 +171,7 @@ fn all_present(found: Found) -> Result<Streams, TableFault>
 /// The streams of metadata.
 pub(crate) fn read_streams(md: &[u8]) -> Result<Streams, TableFault>
     requires { length md.now < 2 ^ 31 }
-    ensures fault_at_front { IfErr result (λ fault. offset_of fault ≡ 0) }
+    ensures fault_at_prefix { IfErr result (λ fault. offset_of fault ≡ 0) }
     ensures judged { Judges result (first_of (streams_tests md.now)) (λ _. ⊤) }
     ensures tables { IfOk result (λ streams. stream md.now (codes "#~") ≡ Some streams.tables) }
     ensures strings { IfOk result (λ streams. stream md.now (codes "#Strings") ≡ Some streams.strings) }

@@ -194,8 +194,8 @@ impl<'a> Tables<'a> {
             (λ at. IfSome (blob_at self.now index) (λ item. StandsAt self.now at item)) }
         ensures within { IfSome result (λ at. at ≤ length self.now) }
     {
-        let front = whole_length(rest_from(self.blob, index))?;
-        Some(self.blob_at + index + front.width)
+        let prefix = whole_length(rest_from(self.blob, index))?;
+        Some(self.blob_at + index + prefix.width)
     }
 
     /// The item at a place of the heap `#US`, none where it is not there as a whole.

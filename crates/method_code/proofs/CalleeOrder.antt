@@ -19,22 +19,22 @@ head_among true later k len there behind = omega arith
 head_among false later k len there behind = let less = behind there in omega (arith, less)
 
 -- A number among the first ones has its place among them.
-pub place_among : (front rest : List ℕ) (n : ℕ) → is_in front n ≡ true → place_in (front ++ rest) n < length front
+pub place_among : (prefix rest : List ℕ) (n : ℕ) → is_in prefix n ≡ true → place_in (prefix ++ rest) n < length prefix
 place_among [] rest n there = absurd cc
-place_among (m ∷ front) rest n there = head_among (m == n) (is_in front n) (place_in (front ++ rest) n) (length front) there (place_among front rest n)
+place_among (m ∷ prefix) rest n there = head_among (m == n) (is_in prefix n) (place_in (prefix ++ rest) n) (length prefix) there (place_among prefix rest n)
 
 head_behind : (here later : Bool) (k len : ℕ) → (here || later) ≡ false → (later ≡ false → k ≡ len) → (if not here then 1 + k else 0) ≡ suc len
 head_behind true later k len none behind = absurd cc
 head_behind false later k len none behind = let same = behind none in omega (arith, same)
 
 -- The first one after them is at their end.
-place_behind : (front rest : List ℕ) (n : ℕ) → is_in front n ≡ false → place_in (front ++ n ∷ rest) n ≡ length front
+place_behind : (prefix rest : List ℕ) (n : ℕ) → is_in prefix n ≡ false → place_in (prefix ++ n ∷ rest) n ≡ length prefix
 place_behind [] rest n none = rw (eq-eqb n n refl) refl
-place_behind (m ∷ front) rest n none = head_behind (m == n) (is_in front n) (place_in (front ++ n ∷ rest) n) (length front) none (place_behind front rest n)
+place_behind (m ∷ prefix) rest n none = head_behind (m == n) (is_in prefix n) (place_in (prefix ++ n ∷ rest) n) (length prefix) none (place_behind prefix rest n)
 
 -- The same numbers were met.
 abbrev SameMet : List ℕ → List ℕ → Type 0
-SameMet met front = (n : ℕ) → is_in met n ≡ is_in front n
+SameMet met prefix = (n : ℕ) → is_in met n ≡ is_in prefix n
 
 or_swapped : (a b : Bool) → (a || b) ≡ (b || (a || false))
 or_swapped true true = refl
@@ -42,34 +42,34 @@ or_swapped true false = refl
 or_swapped false true = refl
 or_swapped false false = refl
 
-one_met : (met front : List ℕ) (n : ℕ) → SameMet met front → SameMet (n ∷ met) (front ++ n ∷ [])
-one_met met front n same k =
-    ap (λ b. (n == k) || b) (same k) ∙ (or_swapped (n == k) (is_in front k) ∙ sym (list_any-append (λ m. m == k) front (n ∷ [])))
+one_met : (met prefix : List ℕ) (n : ℕ) → SameMet met prefix → SameMet (n ∷ met) (prefix ++ n ∷ [])
+one_met met prefix n same k =
+    ap (λ b. (n == k) || b) (same k) ∙ (or_swapped (n == k) (is_in prefix k) ∙ sym (list_any-append (λ m. m == k) prefix (n ∷ [])))
 
 -- The places of these calls are in order after the first uses.
 abbrev PlacedFrom : List ℕ → List ℕ → Type 0
-PlacedFrom uses calls = (front met : List ℕ) → SameMet met front → uses ≡ front ++ first_uses met calls → InOrderOfUse (length front) (length uses) (map (place_in uses) calls)
+PlacedFrom uses calls = (prefix met : List ℕ) → SameMet met prefix → uses ≡ prefix ++ first_uses met calls → InOrderOfUse (length prefix) (length uses) (map (place_in uses) calls)
 
 abbrev uses_behind : Bool → List ℕ → List ℕ → ℕ → List ℕ
 uses_behind known met calls n = if known then first_uses met calls else n ∷ first_uses (n ∷ met) calls
 
-one_placed : (uses calls front met : List ℕ) (n : ℕ) (known : Bool) → is_in met n ≡ known → SameMet met front → uses ≡ front ++ uses_behind known met calls n → PlacedFrom uses calls
-    → InOrderOfUse (length front) (length uses) (place_in uses n ∷ map (place_in uses) calls)
-one_placed uses calls front met n true met_it same rest later =
-    let there : place_in (front ++ first_uses met calls) n < length front = place_among front (first_uses met calls) n (sym (same n) ∙ met_it) in
-    inl (subst (λ (us : List ℕ). place_in us n < length front) (sym rest) there, later front met same rest)
-one_placed uses calls front met n false new same rest later =
-    let there : place_in (front ++ n ∷ first_uses (n ∷ met) calls) n ≡ length front = place_behind front (first_uses (n ∷ met) calls) n (sym (same n) ∙ new) in
-    let longer : length (front ++ n ∷ []) ≡ length front + 1 = length-append front (n ∷ []) in
+one_placed : (uses calls prefix met : List ℕ) (n : ℕ) (known : Bool) → is_in met n ≡ known → SameMet met prefix → uses ≡ prefix ++ uses_behind known met calls n → PlacedFrom uses calls
+    → InOrderOfUse (length prefix) (length uses) (place_in uses n ∷ map (place_in uses) calls)
+one_placed uses calls prefix met n true met_it same rest later =
+    let there : place_in (prefix ++ first_uses met calls) n < length prefix = place_among prefix (first_uses met calls) n (sym (same n) ∙ met_it) in
+    inl (subst (λ (us : List ℕ). place_in us n < length prefix) (sym rest) there, later prefix met same rest)
+one_placed uses calls prefix met n false new same rest later =
+    let there : place_in (prefix ++ n ∷ first_uses (n ∷ met) calls) n ≡ length prefix = place_behind prefix (first_uses (n ∷ met) calls) n (sym (same n) ∙ new) in
+    let longer : length (prefix ++ n ∷ []) ≡ length prefix + 1 = length-append prefix (n ∷ []) in
     inr (
-      subst (λ (us : List ℕ). place_in us n ≡ length front) (sym rest) there,
+      subst (λ (us : List ℕ). place_in us n ≡ length prefix) (sym rest) there,
       subst (λ (k : ℕ). InOrderOfUse k (length uses) (map (place_in uses) calls)) longer
-          (later (front ++ n ∷ []) (n ∷ met) (one_met met front n same) (rest ∙ sym (append_assoc front (n ∷ []) (first_uses (n ∷ met) calls)))),
+          (later (prefix ++ n ∷ []) (n ∷ met) (one_met met prefix n same) (rest ∙ sym (append_assoc prefix (n ∷ []) (first_uses (n ∷ met) calls)))),
     )
 
 in_order : (uses calls : List ℕ) → PlacedFrom uses calls
-in_order uses [] front met same whole = sym (ap length whole ∙ ap length (append-nil front))
-in_order uses (n ∷ calls) front met same whole = one_placed uses calls front met n (is_in met n) refl same whole (in_order uses calls)
+in_order uses [] prefix met same whole = sym (ap length whole ∙ ap length (append-nil prefix))
+in_order uses (n ∷ calls) prefix met same whole = one_placed uses calls prefix met n (is_in met n) refl same whole (in_order uses calls)
 
 pub uses_in_order : (calls : List ℕ) → InOrderOfUse 0 (length (first_uses [] calls)) (map (place_in (first_uses [] calls)) calls)
 uses_in_order calls = in_order (first_uses [] calls) calls [] [] (λ n. refl) refl

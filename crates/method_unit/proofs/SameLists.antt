@@ -7,7 +7,7 @@ module _ {X : Type 0} (a b : List X) where
       → take i a ≡ take i b → take (i + 1) a ≡ take (i + 1) b
   one_more_same i x y inside other here there same so_far =
       take_more a i x inside
-      ∙ ap₂ (λ (front : List X) (item : X). front ++ item ∷ []) so_far (sym here ∙ same ∙ there)
+      ∙ ap₂ (λ (prefix : List X) (item : X). prefix ++ item ∷ []) so_far (sym here ∙ same ∙ there)
       ∙ sym (take_more b i y other)
 
   pub all_same : (i : ℕ) → length a ≡ length b → length a ≤ i → take i a ≡ take i b → a ≡ b

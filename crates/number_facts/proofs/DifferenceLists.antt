@@ -18,13 +18,13 @@ use Rattle.number_facts.specs.declared.differences.Difference.{Difference}
 pub put_at : (ds : List Difference) (new : Difference) (place : ℕ) → place ≤ length ds
     → AllWithin (λ d. nat_le d.subtrahend.sym new.subtrahend.sym ≡ true) ds 0 place
     → AllWithin (λ d. nat_le d.subtrahend.sym new.subtrahend.sym ≡ false) ds place (length ds) → insert ds place new ≡ put ds new
-put_at [] new zero le front behind = refl
-put_at [] new (suc place) le front behind = absurd (omega (arith, le))
-put_at (d ∷ ds) new zero le front behind = rw (behind zero d (omega arith) (omega arith)) refl
-put_at (d ∷ ds) new (suc place) le front behind =
-    rw (front zero d (omega arith) (omega arith))
+put_at [] new zero le prefix behind = refl
+put_at [] new (suc place) le prefix behind = absurd (omega (arith, le))
+put_at (d ∷ ds) new zero le prefix behind = rw (behind zero d (omega arith) (omega arith)) refl
+put_at (d ∷ ds) new (suc place) le prefix behind =
+    rw (prefix zero d (omega arith) (omega arith))
     (ap (λ es. d ∷ es)
-    (put_at ds new place (omega (arith, le)) (λ k e low high. front (suc k) e (omega arith) (omega (arith, high)))
+    (put_at ds new place (omega (arith, le)) (λ k e low high. prefix (suc k) e (omega arith) (omega (arith, high)))
     (λ k e low high. behind (suc k) e (omega (arith, low)) (omega (arith, high)))))
 
 -- All subtract this symbol or a later one.

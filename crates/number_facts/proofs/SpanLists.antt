@@ -64,7 +64,7 @@ item_from f from (suc n) (suc i) inside = item_from f (from + 1) n i (omega (ari
 item_at : (f : ℕ → ℤ) (n i : ℕ) (ns : List ℤ) → ns ≡ map f (range_with_len 0 n) → i < n → get_or ns i (pos 0) ≡ f i
 item_at f n i ns is inside = ap (λ ms. get_or ms i (pos 0)) is ∙ item_from f 0 n i inside ∙ ap f (from_zero i)
 
--- A list that was written back whole, over the front of another one.
+-- A list that was written back whole, over the start of another one.
 pub written_back : (n : ℕ) (ns rest : List ℤ) → length ns ≡ n → take n (ns ++ rest) ≡ ns
 written_back n ns rest is = take-append-le n ns rest (omega (arith, is)) ∙ take_all n ns (omega (arith, is))
 

@@ -1,4 +1,4 @@
--- Zeros in front of a number.
+-- Zeros before a number.
 use Rattle.std.proofs.Common.{◌≡◌, ℕ, ◌^◌, ◌<◌, pos, refl, arith}
 use Rattle.std.specs.Int.{w64, leading_zeros}
 use Rattle.std.specs.Int.Count.{count_leading_zeros}

@@ -12,7 +12,7 @@ common_bits r q =
     else if is_not_negative q then between (pos 0) q.hi
     else full
 
--- The number of all ones that has as many places as n: of 64 ones, as many are dropped as n has zeros in front.
+-- The number of all ones that has as many places as n: of 64 ones, as many are dropped as n has zeros in prefix.
 unfoldable pub all_ones : ℤ → ℤ
 all_ones n = pos ((2 ^ 64 - 1) / 2 ^ leading_zeros w64 (unsigned_abs n))
 

@@ -53,12 +53,12 @@ partitioned (row ∷ rows) s t form = partitioned_more row rows s t form.1 (part
 -- So many rows stand before them.
 pub place_is : (rows : List BoundRow) (s t i : ℕ) → i ≤ length rows → AllWithin (λ row. is_before row s t ≡ true) rows 0 i
     → AllWithin (λ row. is_before row s t ≡ false) rows i (length rows) → i ≡ place_of rows s t
-place_is [] s t i le front behind = omega arith
-place_is (row ∷ rows) s t zero le front behind = rw (behind zero row (omega arith) (omega arith)) refl
-place_is (row ∷ rows) s t (suc i) le front behind =
-    rw (front zero row (omega arith) (omega arith))
+place_is [] s t i le prefix behind = omega arith
+place_is (row ∷ rows) s t zero le prefix behind = rw (behind zero row (omega arith) (omega arith)) refl
+place_is (row ∷ rows) s t (suc i) le prefix behind =
+    rw (prefix zero row (omega arith) (omega arith))
     (ap suc
-    (place_is rows s t i (omega (arith, le)) (λ k d low high. front (suc k) d (omega arith) (omega (arith, high)))
+    (place_is rows s t i (omega (arith, le)) (λ k d low high. prefix (suc k) d (omega arith) (omega (arith, high)))
     (λ k d low high. behind (suc k) d (omega (arith, low)) (omega (arith, high)))))
 
 pub none_before : (rows : List BoundRow) (s t : ℕ) → length rows ≡ 0 → length rows ≡ place_of rows s t
@@ -86,32 +86,32 @@ pub symbols_rise : (rows : List BoundRow) → AreBounds rows → IsNonDecreasing
 symbols_rise [] form = λ i j d up inside. absurd (omega (arith, inside))
 symbols_rise (row ∷ rows) form = rise_more row rows form.1 (symbols_rise rows form.2)
 
--- Where those that pass come first, they are so many from the front.
-pub passing_front : {X : Type 0} (p : X → Bool) (xs : List X) (k : ℕ) → k ≤ length xs → AllWithin (λ x. p x ≡ true) xs 0 k → AllWithin (λ x. p x ≡ false) xs k (length xs)
+-- Where those that pass come first, they are so many from the prefix.
+pub passing_prefix : {X : Type 0} (p : X → Bool) (xs : List X) (k : ℕ) → k ≤ length xs → AllWithin (λ x. p x ≡ true) xs 0 k → AllWithin (λ x. p x ≡ false) xs k (length xs)
     → take k xs ≡ filter p xs
-passing_front p [] zero le front behind = refl
-passing_front p [] (suc k) le front behind = refl
-passing_front p (x ∷ xs) zero le front behind =
+passing_prefix p [] zero le prefix behind = refl
+passing_prefix p [] (suc k) le prefix behind = refl
+passing_prefix p (x ∷ xs) zero le prefix behind =
     rw (behind zero x (omega arith) (omega arith))
-    (passing_front p xs zero (omega arith) (λ j d low high. absurd (omega (arith, low, high))) (λ j d low high. behind (suc j) d (omega arith) (omega (arith, high))))
-passing_front p (x ∷ xs) (suc k) le front behind =
-    rw (front zero x (omega arith) (omega arith))
+    (passing_prefix p xs zero (omega arith) (λ j d low high. absurd (omega (arith, low, high))) (λ j d low high. behind (suc j) d (omega arith) (omega (arith, high))))
+passing_prefix p (x ∷ xs) (suc k) le prefix behind =
+    rw (prefix zero x (omega arith) (omega arith))
     (ap (λ ys. x ∷ ys)
-    (passing_front p xs k (omega (arith, le)) (λ j d low high. front (suc j) d (omega arith) (omega (arith, high)))
+    (passing_prefix p xs k (omega (arith, le)) (λ j d low high. prefix (suc j) d (omega arith) (omega (arith, high)))
     (λ j d low high. behind (suc j) d (omega (arith, low)) (omega (arith, high)))))
 
 -- Where those that pass come last, they are what is left behind so many.
 pub passing_rest : {X : Type 0} (p : X → Bool) (xs : List X) (k : ℕ) → k ≤ length xs → AllWithin (λ x. p x ≡ false) xs 0 k → AllWithin (λ x. p x ≡ true) xs k (length xs)
     → drop k xs ≡ filter p xs
-passing_rest p [] zero le front behind = refl
-passing_rest p [] (suc k) le front behind = refl
-passing_rest p (x ∷ xs) zero le front behind =
+passing_rest p [] zero le prefix behind = refl
+passing_rest p [] (suc k) le prefix behind = refl
+passing_rest p (x ∷ xs) zero le prefix behind =
     rw (behind zero x (omega arith) (omega arith))
     (ap (λ ys. x ∷ ys)
     (passing_rest p xs zero (omega arith) (λ j d low high. absurd (omega (arith, low, high))) (λ j d low high. behind (suc j) d (omega arith) (omega (arith, high)))))
-passing_rest p (x ∷ xs) (suc k) le front behind =
-    rw (front zero x (omega arith) (omega arith))
-    (passing_rest p xs k (omega (arith, le)) (λ j d low high. front (suc j) d (omega arith) (omega (arith, high)))
+passing_rest p (x ∷ xs) (suc k) le prefix behind =
+    rw (prefix zero x (omega arith) (omega arith))
+    (passing_rest p xs k (omega (arith, le)) (λ j d low high. prefix (suc j) d (omega arith) (omega (arith, high)))
     (λ j d low high. behind (suc j) d (omega (arith, low)) (omega (arith, high))))
 
 -- Where the last row before a place goes from a symbol below a number, all before the place do.

@@ -37,9 +37,9 @@ turned_within targets s t low high so inside all = λ k d above below.
 -- So many rows stand before them.
 pub place_to_is : (targets : List BoundRow) (s t i : ℕ) → i ≤ length targets → AllWithin (λ row. is_before (turned row) t s ≡ true) targets 0 i
     → AllWithin (λ row. is_before (turned row) t s ≡ false) targets i (length targets) → i ≡ place_of (map turned targets) t s
-place_to_is targets s t i le front behind =
+place_to_is targets s t i le prefix behind =
     let long = length-map targets turned in
-    place_is (map turned targets) t s i (rw long le) (turned_within targets s t 0 i true le front)
+    place_is (map turned targets) t s i (rw long le) (turned_within targets s t 0 i true le prefix)
     (rw long (turned_within targets s t i (length targets) false (omega arith) behind))
 
 -- ---- one more bound

@@ -65,7 +65,7 @@ line_there text start place low within feed =
     let there : start + (place - start) ≡ place = omega (arith, low) in
     let line = take (place - start) (drop start text) in
     take_more text place 0 within
-    ∙ ap₂ (λ (front : List ℕ) (b : ℕ). front ++ b ∷ [])
+    ∙ ap₂ (λ (prefix : List ℕ) (b : ℕ). prefix ++ b ∷ [])
     (ap (λ (n : ℕ). take n text) (sym there) ∙ sym (take_split start (place - start) text))
     (eqb-true (get_or text place 0) 10 feed)
     ∙ append_assoc (take start text) line (10 ∷ [])
@@ -90,7 +90,7 @@ scan_line text start place before within feed other =
           (record { plain = before.plain; other = not_end line other }, tt);
       are =
           flat_map-append with_feed before.lines (line ∷ [])
-          ∙ ap₂ (λ (front last : List ℕ). front ++ last) before.are (flat_map-cons with_feed line []
+          ∙ ap₂ (λ (prefix last : List ℕ). prefix ++ last) before.are (flat_map-cons with_feed line []
           ∙ append-nil (with_feed line))
           ∙ sym (line_there text start place before.low within feed);
       low = omega arith;

@@ -15,7 +15,7 @@ use Rattle.method_unit.proofs.UnitAgain.{one_unit}
 use Rattle.state_facts.specs.StateFacts.{State}
 use Rattle.unit_form.specs.Spelling.{unit_bytes}
 use Rattle.proof_files.specs.Lines.{IsCut, IsOtherLine, NoFeed, lines_text, with_feed}
-use Rattle.proof_files.specs.Proofs.{Entry, IsEntry, blocks_of, entry_text, front_text, hex_text, unit_line}
+use Rattle.proof_files.specs.Proofs.{Entry, IsEntry, blocks_of, entry_text, prefix_text, hex_text, unit_line}
 use Rattle.proof_files.specs.Steps.{line_text}
 use Rattle.proof_files.proofs.HexLemmas.{hex_once}
 use Rattle.proof_files.proofs.LineLemmas.{line_once}
@@ -47,20 +47,20 @@ unit_line_once key other rest after first second same =
 -- ---- entries
 
 -- The text of an entry but for its last line, by the bytes of its unit and the lines of its invariant.
-pub front_is : (e : Entry)
-    → front_text e ≡ line_text (unit_bytes e.unit) (invariant_text e.unit (blocks_of e.unit) e.states)
-unfolding front_text unit_line line_text
-front_is e = refl
+pub prefix_is : (e : Entry)
+    → prefix_text e ≡ line_text (unit_bytes e.unit) (invariant_text e.unit (blocks_of e.unit) e.states)
+unfolding prefix_text unit_line line_text
+prefix_is e = refl
 
 abbrev pub states_text : MethodUnit → List State → List ℕ
 states_text unit states = invariant_text unit (blocks_of unit) states
 
-pub entry_once : (e f : Entry) → IsEntry e → IsEntry f → front_text e ≡ front_text f → e ≡ f
+pub entry_once : (e f : Entry) → IsEntry e → IsEntry f → prefix_text e ≡ prefix_text f → e ≡ f
 entry_once e f e_is f_is same =
     let both = unit_line_once (unit_bytes e.unit) (unit_bytes f.unit) (states_text e.unit e.states)
     (states_text f.unit f.states)
-    (spelling_is_bytes e.unit e_is.is_unit) (spelling_is_bytes f.unit f_is.is_unit) (sym (front_is e) ∙ same
-    ∙ front_is f) in
+    (spelling_is_bytes e.unit e_is.is_unit) (spelling_is_bytes f.unit f_is.is_unit) (sym (prefix_is e) ∙ same
+    ∙ prefix_is f) in
     let unit : e.unit ≡ f.unit = one_unit e.unit f.unit e_is.is_unit f_is.is_unit both.0 in
     let states : e.states ≡ f.states =
     distinct f.unit (blocks_of f.unit) e.states f.states
@@ -93,8 +93,8 @@ indented_lines _ (more text rest plain others) =
 other_unit : (bytes : List ℕ) → codes "unit " ++ hex_text bytes ≡ codes "end" → ⊥
 other_unit bytes same = absurd cc
 
-front_lines : (e : Entry) → IsOfLines (front_text e)
-front_lines e =
+prefix_lines : (e : Entry) → IsOfLines (prefix_text e)
+prefix_lines e =
     let text = states_text e.unit e.states in
     let later = indented_lines text (indented e.unit (blocks_of e.unit) e.states) in
     let first = codes "unit " ++ hex_text (unit_bytes e.unit) in
@@ -106,11 +106,11 @@ front_lines e =
       );
       are =
           flat_map-cons with_feed first later.lines ∙ ap (λ (t : List ℕ). with_feed first ++ t) later.are
-          ∙ append_assoc first (10 ∷ []) text ∙ sym (line_is (unit_bytes e.unit) text) ∙ sym (front_is e);
+          ∙ append_assoc first (10 ∷ []) text ∙ sym (line_is (unit_bytes e.unit) text) ∙ sym (prefix_is e);
     }
 
 -- The first line `end` of a text that begins with an entry is the last line of the entry.
-pub entry_cut : (e : Entry) (rest : List ℕ) → IsCut (entry_text e ++ rest) (front_text e) rest
+pub entry_cut : (e : Entry) (rest : List ℕ) → IsCut (entry_text e ++ rest) (prefix_text e) rest
 entry_cut e rest =
-    let front = front_lines e in
-    record { lines = front.lines; other = front.other; are = front.are; same = refl }
+    let prefix = prefix_lines e in
+    record { lines = prefix.lines; other = prefix.other; are = prefix.are; same = refl }

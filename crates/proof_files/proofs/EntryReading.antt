@@ -15,10 +15,10 @@ use Rattle.unit_flow.specs.FlowOf.{flow_of}
 use Rattle.unit_flow.specs.declared.unit_flow.UnitFlow.{UnitFlow}
 use Rattle.unit_form.specs.Spelling.{unit_bytes}
 use Rattle.proof_files.specs.Held.{entries_held, keys_held}
-use Rattle.proof_files.specs.Proofs.{Entry, IsNewEntry, front_text, hex_text, is_among}
+use Rattle.proof_files.specs.Proofs.{Entry, IsNewEntry, prefix_text, hex_text, is_among}
 use Rattle.proof_files.specs.Steps.{AreStatesOf, HasParts, IsEntryOf, IsUnitLineOf, Takes, line_text}
 use Rattle.proof_files.specs.declared.known_entries.KnownEntries.{KnownEntries}
-use Rattle.proof_files.proofs.EntryLemmas.{front_is, states_text, unit_line_once}
+use Rattle.proof_files.proofs.EntryLemmas.{prefix_is, states_text, unit_line_once}
 use Rattle.proof_files.proofs.HexReading.{hex_length}
 
 -- ---- of its unit and its lines
@@ -47,53 +47,53 @@ shape_none code text found seen has_shape is same exact fails states shape are =
 
 -- The text is that of no new entry.
 abbrev pub IsNoNew : List (List ℕ) → List ℕ → Type 0
-IsNoNew keys front = (e : Entry) → IsNewEntry keys e → front_text e ≡ front → ⊥
+IsNoNew keys prefix = (e : Entry) → IsNewEntry keys e → prefix_text e ≡ prefix → ⊥
 
-pub line_none : (keys : List (List ℕ)) (front : List ℕ) → IsUnitLineOf front None → IsNoNew keys front
-line_none keys front none e new same =
+pub line_none : (keys : List (List ℕ)) (prefix : List ℕ) → IsUnitLineOf prefix None → IsNoNew keys prefix
+line_none keys prefix none e new same =
     none (unit_bytes e.unit) (states_text e.unit e.states) (spelling_is_bytes e.unit new.entry.is_unit)
-    (sym (front_is e) ∙ same)
+    (sym (prefix_is e) ∙ same)
 
 -- The bytes of the unit and the lines of the invariant are those that were read.
-pub parts_of : (front key lines : List ℕ) (keys : List (List ℕ)) (e : Entry) → IsUnitLineOf front (Some (key, lines))
+pub parts_of : (prefix key lines : List ℕ) (keys : List (List ℕ)) (e : Entry) → IsUnitLineOf prefix (Some (key, lines))
     → IsNewEntry keys e
-    → front_text e ≡ front → HasParts key lines e
-parts_of front key lines keys e line new same =
+    → prefix_text e ≡ prefix → HasParts key lines e
+parts_of prefix key lines keys e line new same =
     let both = unit_line_once (unit_bytes e.unit) key (states_text e.unit e.states) lines
     (spelling_is_bytes e.unit new.entry.is_unit)
-    line.0 (sym (front_is e) ∙ same ∙ sym line.1) in
+    line.0 (sym (prefix_is e) ∙ same ∙ sym line.1) in
     record { entry = new.entry; unit = both.0; lines = both.1 }
 
-pub known_none : (keys : List (List ℕ)) (front key lines : List ℕ) → IsUnitLineOf front (Some (key, lines))
+pub known_none : (keys : List (List ℕ)) (prefix key lines : List ℕ) → IsUnitLineOf prefix (Some (key, lines))
     → is_among keys key ≡ true
-    → IsNoNew keys front
-known_none keys front key lines line known e new same =
-    let parts = parts_of front key lines keys e line new same in
+    → IsNoNew keys prefix
+known_none keys prefix key lines line known e new same =
+    let parts = parts_of prefix key lines keys e line new same in
     false≢true (sym new.new ∙ ap (is_among keys) parts.unit ∙ known)
 
-pub parts_none : (keys : List (List ℕ)) (front key lines : List ℕ) → IsUnitLineOf front (Some (key, lines))
+pub parts_none : (keys : List (List ℕ)) (prefix key lines : List ℕ) → IsUnitLineOf prefix (Some (key, lines))
     → IsEntryOf key lines None
-    → IsNoNew keys front
-parts_none keys front key lines line none e new same = none e (parts_of front key lines keys e line new same)
+    → IsNoNew keys prefix
+parts_none keys prefix key lines line none e new same = none e (parts_of prefix key lines keys e line new same)
 
-pub entry_taken : (before after : KnownEntries) (front key lines : List ℕ) (e : Entry)
-    → IsUnitLineOf front (Some (key, lines))
+pub entry_taken : (before after : KnownEntries) (prefix key lines : List ℕ) (e : Entry)
+    → IsUnitLineOf prefix (Some (key, lines))
     → is_among (keys_held before) key ≡ false → IsEntryOf key lines (Some e)
     → entries_held after ≡ entries_held before ++ e ∷ [] → keys_held after ≡ keys_held before ++ key ∷ []
-    → Takes before after front true
-entry_taken before after front key lines e line new parts entries keys = record {
+    → Takes before after prefix true
+entry_taken before after prefix key lines e line new parts entries keys = record {
   e = e;
   new = record { entry = parts.entry; new = ap (is_among (keys_held before)) parts.unit ∙ new };
-  text = front_is e ∙ ap (λ (k : List ℕ). line_text k (states_text e.unit e.states)) parts.unit
+  text = prefix_is e ∙ ap (λ (k : List ℕ). line_text k (states_text e.unit e.states)) parts.unit
       ∙ ap (line_text key) parts.lines ∙ line.1;
   entries = entries;
   keys = keys ∙ ap (λ (k : List ℕ). keys_held before ++ k ∷ []) (sym parts.unit);
 }
 
 -- The bytes of a unit are half of its line at most.
-pub key_short : (front key lines : List ℕ) → IsUnitLineOf front (Some (key, lines)) → length key ≤ length front
+pub key_short : (prefix key lines : List ℕ) → IsUnitLineOf prefix (Some (key, lines)) → length key ≤ length prefix
 unfolding line_text
-key_short front key lines line =
+key_short prefix key lines line =
     omega (
       arith,
       ap length line.1,

@@ -21,11 +21,11 @@ pub byte_read : (high low first second : ℕ) → first < 16 → second < 16 →
     → (first * 16 + second < 256) × (hex 2 (first * 16 + second) ≡ high ∷ low ∷ [])
 byte_read high low first second first_small second_small first_is second_is =
     let small : first * 16 + second < 256 = omega (arith, first_small, second_small) in
-    let front : (first * 16 + second) / 16 ≡ first = omega (arith, second_small) in
+    let prefix : (first * 16 + second) / 16 ≡ first = omega (arith, second_small) in
     let last : (first * 16 + second) % 16 ≡ second = omega (arith, second_small) in (
       small,
       byte_digits (first * 16 + second) small ∙ ap₂ (λ (a b : ℕ). a ∷ b ∷ [])
-          (ap (λ (n : ℕ). hex_digit n) front ∙ first_is) (ap (λ (n : ℕ). hex_digit n) last ∙ second_is),
+          (ap (λ (n : ℕ). hex_digit n) prefix ∙ first_is) (ap (λ (n : ℕ). hex_digit n) last ∙ second_is),
     )
 
 pub high_none : (high low : ℕ) → ((n : ℕ) → n < 16 → hex_digit n ≡ high → ⊥)
@@ -63,7 +63,7 @@ two_more : (text : List ℕ) (n : ℕ) → n + 1 < length text
     → take (n + 1 + 1) text ≡ take n text ++ (get_or text n 0 ∷ get_or text (n + 1) 0 ∷ [])
 two_more text n within =
     take_more text (n + 1) 0 within
-    ∙ ap (λ (front : List ℕ). front ++ get_or text (n + 1) 0 ∷ []) (take_more text n 0 (omega (arith, within)))
+    ∙ ap (λ (prefix : List ℕ). prefix ++ get_or text (n + 1) 0 ∷ []) (take_more text n 0 (omega (arith, within)))
     ∙ append_assoc (take n text) (get_or text n 0 ∷ []) (get_or text (n + 1) 0 ∷ [])
 
 pub read_more : (text bytes : List ℕ) (place byte : ℕ) → AreRead text bytes place → 2 * place + 1 < length text
@@ -76,7 +76,7 @@ read_more text bytes place byte before within small is =
       small = IsBytes-append bytes (byte ∷ []) before.small (IsBytes-cons byte [] small IsBytes-nil);
       same =
           flat_map-append (hex 2) bytes (byte ∷ [])
-          ∙ ap₂ (λ (front last : List ℕ). front ++ last) before.same (flat_map-cons (hex 2) byte []
+          ∙ ap₂ (λ (prefix last : List ℕ). prefix ++ last) before.same (flat_map-cons (hex 2) byte []
           ∙ append-nil (hex 2 byte) ∙ is)
           ∙ sym (two_more text (2 * place) within) ∙ ap (λ (n : ℕ). take n text) (sym next);
     }

@@ -10,7 +10,7 @@ use Rattle.cc_base.specs.Digits.{hex}
 use Rattle.cc_base.proofs.DigitLemmas.{length-hex}
 use Rattle.proof_files.specs.Held.{IsMadeOf, WrittenProof, entries_told, told}
 use Rattle.proof_files.specs.Proofs.{AreEntries, AreEntriesBehind, Entry, FIRST_LINE, IsEntry, IsProofOf, entry_text}
-use Rattle.proof_files.specs.Proofs.{front_text, hex_text, kept, kept_within, key_of, proof_bytes, proof_text}
+use Rattle.proof_files.specs.Proofs.{prefix_text, hex_text, kept, kept_within, key_of, proof_bytes, proof_text}
 use Rattle.proof_files.specs.Proofs.{unit_line}
 use Rattle.proof_files.specs.Steps.{IsPut, parts_text}
 use Rattle.proof_files.specs.declared.proof_entry.ProofEntry.{ProofEntry}
@@ -168,7 +168,7 @@ pub made_put : (entries : List Entry) (e : Entry) (before after : WrittenProof) 
     → IsMadeOf entries before
     → before.full ≡ false → IsPut before after key lines → key ≡ unit_bytes e.unit → lines ≡ states_text e.unit e.states
     → IsMadeOf (entries ++ e ∷ []) after
-unfolding parts_text front_text unit_line
+unfolding parts_text prefix_text unit_line
 made_put entries e before after key lines made unfilled put key_is lines_is =
     by (nat_le (length before.text + length (entry_text e)) 67108864) refl
     (subst (λ (t : List ℕ). after ≡ cond (nat_le (length before.text + length t) 67108864)

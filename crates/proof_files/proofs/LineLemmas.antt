@@ -52,33 +52,33 @@ lines_first line lines rest =
     ∙ append_assoc (with_feed line) (lines_text lines) rest
     ∙ append_assoc line (10 ∷ []) (lines_text lines ++ rest)
 
-record AreOnce (front other rest more : List ℕ) : Type 0 where
-  fronts : front ≡ other
+record AreOnce (prefix other rest more : List ℕ) : Type 0 where
+  prefixes : prefix ≡ other
   rests : rest ≡ more
 
 end_of : (a r s : List ℕ) → a ++ END_LINE ++ r ≡ s → a ++ (101 ∷ 110 ∷ 100 ∷ 10 ∷ r) ≡ s
 end_of a r s same = sym (append_assoc a END_LINE r) ∙ same
 
-fronts_once : (xs ys : List (List ℕ)) (r s : List ℕ) → AllByRecursion IsOtherLine xs → AllByRecursion IsOtherLine ys
+prefixes_once : (xs ys : List (List ℕ)) (r s : List ℕ) → AllByRecursion IsOtherLine xs → AllByRecursion IsOtherLine ys
     → lines_text xs ++ (codes "end" ++ 10 ∷ r) ≡ lines_text ys ++ (codes "end" ++ 10 ∷ s)
     → AreOnce (lines_text xs) (lines_text ys) r s
-fronts_once [] [] r s xs_are ys_are same =
-    record { fronts = refl; rests = (line_once (codes "end") (codes "end") r s refl refl same).1 }
-fronts_once [] (y ∷ ys) r s xs_are ys_are same =
+prefixes_once [] [] r s xs_are ys_are same =
+    record { prefixes = refl; rests = (line_once (codes "end") (codes "end") r s refl refl same).1 }
+prefixes_once [] (y ∷ ys) r s xs_are ys_are same =
     let one = line_once (codes "end") y r (lines_text ys ++ (codes "end" ++ 10 ∷ s)) refl ys_are.0.plain
     (same ∙ lines_first y ys (codes "end" ++ 10 ∷ s)) in
     absurd (ys_are.0.other (sym one.0))
-fronts_once (x ∷ xs) [] r s xs_are ys_are same =
+prefixes_once (x ∷ xs) [] r s xs_are ys_are same =
     let one = line_once x (codes "end") (lines_text xs ++ (codes "end" ++ 10 ∷ r)) s xs_are.0.plain refl
     (sym (lines_first x xs (codes "end" ++ 10 ∷ r)) ∙ same) in
     absurd (xs_are.0.other one.0)
-fronts_once (x ∷ xs) (y ∷ ys) r s xs_are ys_are same =
+prefixes_once (x ∷ xs) (y ∷ ys) r s xs_are ys_are same =
     let one = line_once x y (lines_text xs ++ (codes "end" ++ 10 ∷ r)) (lines_text ys ++ (codes "end" ++ 10 ∷ s))
     xs_are.0.plain ys_are.0.plain
     (sym (lines_first x xs (codes "end" ++ 10 ∷ r)) ∙ same ∙ lines_first y ys (codes "end" ++ 10 ∷ s)) in
-    let later = fronts_once xs ys r s xs_are.1 ys_are.1 one.1 in
+    let later = prefixes_once xs ys r s xs_are.1 ys_are.1 one.1 in
     record {
-      fronts = flat_map-cons with_feed x xs ∙ ap₂ (λ (z zs : List ℕ). with_feed z ++ zs) one.0 later.fronts
+      prefixes = flat_map-cons with_feed x xs ∙ ap₂ (λ (z zs : List ℕ). with_feed z ++ zs) one.0 later.prefixes
           ∙ sym (flat_map-cons with_feed y ys);
       rests = later.rests;
     }
@@ -101,17 +101,17 @@ ends_never (x ∷ xs) (y ∷ ys) r last xs_are ys_are plain same =
 
 -- ---- the cut
 
-pub cut_is : {text front rest : List ℕ} (cut : IsCut text front rest)
+pub cut_is : {text prefix rest : List ℕ} (cut : IsCut text prefix rest)
     → lines_text cut.lines ++ (codes "end" ++ 10 ∷ rest) ≡ text
-cut_is {text} {front} {rest} cut =
-    ap (λ (t : List ℕ). t ++ (codes "end" ++ 10 ∷ rest)) cut.are ∙ sym (append_assoc front END_LINE rest) ∙ cut.same
+cut_is {text} {prefix} {rest} cut =
+    ap (λ (t : List ℕ). t ++ (codes "end" ++ 10 ∷ rest)) cut.are ∙ sym (append_assoc prefix END_LINE rest) ∙ cut.same
 
-pub cut_once : (text front rest other more : List ℕ) → IsCut text front rest → IsCut text other more
-    → (front ≡ other) × (rest ≡ more)
-cut_once text front rest other more one two =
-    let both = fronts_once one.lines two.lines rest more one.other two.other (cut_is one ∙ sym (cut_is two)) in
-    (sym one.are ∙ both.fronts ∙ two.are, both.rests)
+pub cut_once : (text prefix rest other more : List ℕ) → IsCut text prefix rest → IsCut text other more
+    → (prefix ≡ other) × (rest ≡ more)
+cut_once text prefix rest other more one two =
+    let both = prefixes_once one.lines two.lines rest more one.other two.other (cut_is one ∙ sym (cut_is two)) in
+    (sym one.are ∙ both.prefixes ∙ two.are, both.rests)
 
-pub cut_never : (text front rest : List ℕ) → IsCut text front rest → IsUncut text → ⊥
-cut_never text front rest cut uncut =
+pub cut_never : (text prefix rest : List ℕ) → IsCut text prefix rest → IsUncut text → ⊥
+cut_never text prefix rest cut uncut =
     ends_never cut.lines uncut.lines rest uncut.last cut.other uncut.other uncut.plain (cut_is cut ∙ sym uncut.same)

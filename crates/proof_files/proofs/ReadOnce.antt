@@ -6,7 +6,7 @@ use Rattle.std.proofs.lemmas.List.{append_cancel_left}
 use Rattle.std.proofs.lemmas.List.Concat.{flat_map-cons}
 use Rattle.proof_files.specs.Lines.{END_LINE, IsCut}
 use Rattle.proof_files.specs.Proofs.{AreEntries, AreEntriesBehind, Entry, FIRST_LINE, IsNewEntry, IsProofOf, entry_text}
-use Rattle.proof_files.specs.Proofs.{front_text, key_of, keys_of, proof_text}
+use Rattle.proof_files.specs.Proofs.{prefix_text, key_of, keys_of, proof_text}
 use Rattle.proof_files.specs.Reading.{BreaksAt, IsBadEntry, IsFaultOf, IsProofRead, IsUnended, ProofRead, Refused}
 use Rattle.proof_files.specs.Reading.{Whole}
 use Rattle.proof_files.specs.declared.proof_fault.ProofFault.TheVariants.{Form, Large, Version}
@@ -17,20 +17,20 @@ use Rattle.proof_files.proofs.LineLemmas.{cut_never, cut_once}
 abbrev pub Stops : List (List ℕ) → List ℕ → Type 0
 Stops keys rest = (rest ≡ []) ⊎ (IsBadEntry keys rest ⊎ IsUnended rest)
 
-front_of_none : (front more : List ℕ) → front ++ END_LINE ++ more ≡ [] → ⊥
-front_of_none [] more same = absurd cc
-front_of_none (b ∷ front) more same = absurd cc
+prefix_of_none : (prefix more : List ℕ) → prefix ++ END_LINE ++ more ≡ [] → ⊥
+prefix_of_none [] more same = absurd cc
+prefix_of_none (b ∷ prefix) more same = absurd cc
 
 -- No new entry comes where reading stops.
 pub no_entry : (keys : List (List ℕ)) (rest : List ℕ) (e : Entry) (more : List ℕ) → Stops keys rest → IsNewEntry keys e
     → entry_text e ++ more ≡ rest → ⊥
-no_entry keys rest e more (inl nothing) new same = front_of_none (front_text e) more (same ∙ nothing)
+no_entry keys rest e more (inl nothing) new same = prefix_of_none (prefix_text e) more (same ∙ nothing)
 no_entry keys rest e more (inr (inl bad)) new same =
-    let cut = subst (λ (t : List ℕ). IsCut t (front_text e) more) same (entry_cut e more) in
-    let both = cut_once rest (front_text e) more bad.front bad.rest cut bad.cut in
+    let cut = subst (λ (t : List ℕ). IsCut t (prefix_text e) more) same (entry_cut e more) in
+    let both = cut_once rest (prefix_text e) more bad.prefix bad.rest cut bad.cut in
     bad.none e new (ap (λ (t : List ℕ). t ++ END_LINE) both.0)
 no_entry keys rest e more (inr (inr unended)) new same =
-    cut_never rest (front_text e) more (subst (λ (t : List ℕ). IsCut t (front_text e) more) same (entry_cut e more))
+    cut_never rest (prefix_text e) more (subst (λ (t : List ℕ). IsCut t (prefix_text e) more) same (entry_cut e more))
     unended.uncut
 
 -- The first entry, and what comes behind it.
@@ -44,11 +44,11 @@ record AreOnce (entries others : List Entry) (rest more : List ℕ) : Type 0 whe
   same : entries ≡ others
   rests : rest ≡ more
 
-front_same : (e f : Entry) (r s : List ℕ) → entry_text e ++ r ≡ entry_text f ++ s
-    → (front_text e ≡ front_text f) × (r ≡ s)
-front_same e f r s same =
-    cut_once (entry_text f ++ s) (front_text e) r (front_text f) s
-    (subst (λ (t : List ℕ). IsCut t (front_text e) r) same (entry_cut e r)) (entry_cut f s)
+prefix_same : (e f : Entry) (r s : List ℕ) → entry_text e ++ r ≡ entry_text f ++ s
+    → (prefix_text e ≡ prefix_text f) × (r ≡ s)
+prefix_same e f r s same =
+    cut_once (entry_text f ++ s) (prefix_text e) r (prefix_text f) s
+    (subst (λ (t : List ℕ). IsCut t (prefix_text e) r) same (entry_cut e r)) (entry_cut f s)
 
 behind_key : (keys : List (List ℕ)) (e : Entry) (es : List Entry) (rest : List ℕ)
     → Stops (keys ++ keys_of (e ∷ es)) rest
@@ -70,7 +70,7 @@ entries_once keys (e ∷ es) [] rest more es_are fs_are stops ends same =
     (subst (λ (ks : List (List ℕ)). Stops ks more) (append-nil keys) ends) es_are.0 (sym (entries_first e es rest)
     ∙ same))
 entries_once keys (e ∷ es) (f ∷ fs) rest more es_are fs_are stops ends same =
-    let both = front_same e f (flat_map entry_text es ++ rest) (flat_map entry_text fs ++ more)
+    let both = prefix_same e f (flat_map entry_text es ++ rest) (flat_map entry_text fs ++ more)
     (sym (entries_first e es rest) ∙ same ∙ entries_first f fs more) in
     let one : e ≡ f = entry_once e f es_are.0.entry fs_are.0.entry both.0 in
     let later = entries_once (keys ++ key_of e ∷ []) es fs rest more es_are.1
@@ -113,7 +113,7 @@ stops_there bytes at breaks = by breaks.fault
     by (inr unended) = inr (inr unended.0)
 
 bad_is_some : (keys : List (List ℕ)) (rest : List ℕ) → IsBadEntry keys rest → rest ≡ [] → ⊥
-bad_is_some keys rest bad nothing = front_of_none bad.front bad.rest (bad.cut.same ∙ nothing)
+bad_is_some keys rest bad nothing = prefix_of_none bad.prefix bad.rest (bad.cut.same ∙ nothing)
 
 whole_breaks : (es : List Entry) (bytes : List ℕ) (at : ℕ) → IsProofOf es bytes → BreaksAt bytes at → ⊥
 whole_breaks es bytes at is breaks =
@@ -140,12 +140,12 @@ breaks_once bytes at other one two =
         ⊎ (IsUnended two.rest × (other ≡ length bytes)) → at ≡ other
     by same rests (inl bad) (inl worse) = bad.1 ∙ ap (λ (es : List Entry). length (proof_text es)) same ∙ sym worse.1
     by same rests (inl bad) (inr unended) =
-        absurd (cut_never two.rest bad.0.front bad.0.rest
-        (subst (λ (t : List ℕ). IsCut t bad.0.front bad.0.rest) rests bad.0.cut)
+        absurd (cut_never two.rest bad.0.prefix bad.0.rest
+        (subst (λ (t : List ℕ). IsCut t bad.0.prefix bad.0.rest) rests bad.0.cut)
         unended.0.uncut)
     by same rests (inr unended) (inl bad) =
-        absurd (cut_never one.rest bad.0.front bad.0.rest
-        (subst (λ (t : List ℕ). IsCut t bad.0.front bad.0.rest) (sym rests) bad.0.cut)
+        absurd (cut_never one.rest bad.0.prefix bad.0.rest
+        (subst (λ (t : List ℕ). IsCut t bad.0.prefix bad.0.rest) (sym rests) bad.0.cut)
         unended.0.uncut)
     by same rests (inr unended) (inr also) = unended.1 ∙ sym also.1
 

@@ -8,7 +8,7 @@ use Rattle.std.proofs.lemmas.List.Concat.{flat_map-append, flat_map-cons}
 use Rattle.proof_files.specs.Held.{entries_held, keys_held}
 use Rattle.proof_files.specs.Lines.{END_LINE, IsCut}
 use Rattle.proof_files.specs.Proofs.{AreEntries, AreEntriesBehind, Entry, FIRST_LINE, IsNewEntry, IsProofOf, entry_text}
-use Rattle.proof_files.specs.Proofs.{front_text, key_of, keys_of, proof_text}
+use Rattle.proof_files.specs.Proofs.{prefix_text, key_of, keys_of, proof_text}
 use Rattle.proof_files.specs.Reading.{IsFaultOf}
 use Rattle.proof_files.specs.Steps.{BeginsProof, IsCutAt, Takes}
 use Rattle.proof_files.specs.declared.known_entries.KnownEntries.{KnownEntries}
@@ -66,8 +66,8 @@ cut_length text end rest cut =
     let all = ap length cut.same in
     let first = length-append (take end text ++ END_LINE) rest in
     let second = length-append (take end text) END_LINE in
-    let front = length-take end text in
-    (omega (arith, all, first, second, front), omega (arith, all, first, second, front))
+    let prefix = length-take end text in
+    (omega (arith, all, first, second, prefix), omega (arith, all, first, second, prefix))
 
 cut_behind : (text : List ℕ) (end : ℕ) (rest : List ℕ) → IsCut text (take end text) rest → drop (end + 4) text ≡ rest
 cut_behind text end rest cut =
@@ -153,16 +153,16 @@ way_bad bytes known after at end size way (rest, cut) none = (
     same = way.same;
     fault = inl (
       record {
-        front = take end (drop at bytes);
+        prefix = take end (drop at bytes);
         rest = rest;
         cut = cut;
         none = λ e new same. none e (subst (λ (ks : List (List ℕ)). IsNewEntry ks e) (sym way.keys) new)
-            (front_alike (front_text e) (take end (drop at bytes)) same);
+            (prefix_alike (prefix_text e) (take end (drop at bytes)) same);
       },
       way.place,
     );
   },
 )
   where
-    front_alike : (a b : List ℕ) → a ++ END_LINE ≡ b ++ END_LINE → a ≡ b
-    front_alike a b same = append_cancel_right a b END_LINE same
+    prefix_alike : (a b : List ℕ) → a ++ END_LINE ≡ b ++ END_LINE → a ≡ b
+    prefix_alike a b same = append_cancel_right a b END_LINE same

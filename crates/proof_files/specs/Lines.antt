@@ -22,12 +22,12 @@ pub record IsOtherLine (line : List ℕ) : Type 0 where
 abbrev pub END_LINE : List ℕ
 END_LINE = codes "end\n"
 
--- The text has a line `end`. The first one comes behind this front, and the rest comes behind it.
-pub record IsCut (text front rest : List ℕ) : Type 0 where
+-- The text has a line `end`. The first one comes behind this prefix, and the rest comes behind it.
+pub record IsCut (text prefix rest : List ℕ) : Type 0 where
   pub lines : List (List ℕ)
   pub other : AllByRecursion IsOtherLine lines
-  pub are : lines_text lines ≡ front
-  pub same : front ++ END_LINE ++ rest ≡ text
+  pub are : lines_text lines ≡ prefix
+  pub same : prefix ++ END_LINE ++ rest ≡ text
 
 -- The text has no line `end`. The last line may want its line feed, and then may be `end`.
 pub record IsUncut (text : List ℕ) : Type 0 where

@@ -38,11 +38,11 @@ abbrev pub blocks_of : MethodUnit → List ℕ
 blocks_of unit = (graph_of unit).blocks
 
 -- The lines of an entry before the one that ends it.
-unfoldable pub front_text : Entry → List ℕ
-front_text e = unit_line e.unit ++ invariant_text e.unit (blocks_of e.unit) e.states
+unfoldable pub prefix_text : Entry → List ℕ
+prefix_text e = unit_line e.unit ++ invariant_text e.unit (blocks_of e.unit) e.states
 
 abbrev pub entry_text : Entry → List ℕ
-entry_text e = front_text e ++ codes "end\n"
+entry_text e = prefix_text e ++ codes "end\n"
 
 -- The line that a proof file begins with.
 abbrev pub FIRST_LINE : List ℕ

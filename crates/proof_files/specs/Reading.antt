@@ -10,10 +10,10 @@ use Rattle.proof_files.specs.declared.proof_fault.ProofFault.TheVariants.{Form, 
 
 -- The text up to its first line `end`, with it, is that of no entry of a unit whose bytes are none of these.
 pub record IsBadEntry (keys : List (List ℕ)) (text : List ℕ) : Type 0 where
-  pub front : List ℕ
+  pub prefix : List ℕ
   pub rest : List ℕ
-  pub cut : IsCut text front rest
-  pub none : (e : Entry) → IsNewEntry keys e → entry_text e ≡ front ++ END_LINE → ⊥
+  pub cut : IsCut text prefix rest
+  pub none : (e : Entry) → IsNewEntry keys e → entry_text e ≡ prefix ++ END_LINE → ⊥
 
 -- There is text, and it has no line `end`.
 pub record IsUnended (text : List ℕ) : Type 0 where

@@ -13,7 +13,7 @@ use Rattle.unit_flow.specs.declared.unit_flow.UnitFlow.{UnitFlow}
 use Rattle.unit_form.specs.Spelling.{unit_bytes}
 use Rattle.proof_files.specs.Held.{WrittenProof, entries_held, keys_held}
 use Rattle.proof_files.specs.Lines.{IsCut, IsUncut, NoFeed}
-use Rattle.proof_files.specs.Proofs.{Entry, FIRST_LINE, IsEntry, IsNewEntry, MAX_PROOF_BYTES, blocks_of, front_text}
+use Rattle.proof_files.specs.Proofs.{Entry, FIRST_LINE, IsEntry, IsNewEntry, MAX_PROOF_BYTES, blocks_of, prefix_text}
 use Rattle.proof_files.specs.Proofs.{hex_text, key_of}
 use Rattle.proof_files.specs.declared.known_entries.KnownEntries.{KnownEntries}
 
@@ -96,16 +96,16 @@ IsEntryOf key text None = (e : Entry) → HasParts key text e → ⊥
 
 -- The text before the line `end` is that of an entry of another unit than those of the entries that are held, and this
 -- entry is held behind these.
-pub record TakesEntry (before after : KnownEntries) (front : List ℕ) : Type 0 where
+pub record TakesEntry (before after : KnownEntries) (prefix : List ℕ) : Type 0 where
   pub e : Entry
   pub new : IsNewEntry (keys_held before) e
-  pub text : front_text e ≡ front
+  pub text : prefix_text e ≡ prefix
   pub entries : entries_held after ≡ entries_held before ++ e ∷ []
   pub keys : keys_held after ≡ keys_held before ++ key_of e ∷ []
 
 abbrev pub Takes : KnownEntries → KnownEntries → List ℕ → Bool → Type 0
-Takes before after front true = TakesEntry before after front
-Takes before after front false = (e : Entry) → IsNewEntry (keys_held before) e → front_text e ≡ front → ⊥
+Takes before after prefix true = TakesEntry before after prefix
+Takes before after prefix false = (e : Entry) → IsNewEntry (keys_held before) e → prefix_text e ≡ prefix → ⊥
 
 -- The bytes begin with the first line of a proof file.
 abbrev pub BeginsProof : List ℕ → Type 0

@@ -51,11 +51,11 @@ impl KnownEntries {
 
     /// Adds the entry whose text this is, up to its last line. Returns whether it is one, of a unit of which there was
     /// none.
-    pub(crate) fn read_next(&mut self, alloc: Global, front: &[u8]) -> Result<bool, NoMemory>
-        requires short { length front.now ≤ 67108864 }
-        ensures { IfOk result (Takes self.old self.new front.now) }
+    pub(crate) fn read_next(&mut self, alloc: Global, prefix: &[u8]) -> Result<bool, NoMemory>
+        requires short { length prefix.now ≤ 67108864 }
+        ensures { IfOk result (Takes self.old self.new prefix.now) }
     {
-        let Some((key, lines)) = read_unit_line(alloc, front)? else {
+        let Some((key, lines)) = read_unit_line(alloc, prefix)? else {
             return Ok(false);
         };
         if self.has(&key) {

@@ -79,35 +79,35 @@ const FRONT: &[u8] =
 const VALID: u64 = 0x1fff_3fb7_ff57;
 
 /// Appends the size of the stream `#~`, its name, and its header up to HeapSizes.
-fn append_stream(front: &mut Vec<u8>, heap_sizes: u8, size: u32) -> Result<(), AllocError> {
-    front.extend_from_slice(&size.to_le_bytes())?;
-    front.extend_from_slice(b"#~\0\0\0\0\0\0\x02\0")?;
-    front.extend_from_slice(&[heap_sizes, 1])?;
+fn append_stream(prefix: &mut Vec<u8>, heap_sizes: u8, size: u32) -> Result<(), AllocError> {
+    prefix.extend_from_slice(&size.to_le_bytes())?;
+    prefix.extend_from_slice(b"#~\0\0\0\0\0\0\x02\0")?;
+    prefix.extend_from_slice(&[heap_sizes, 1])?;
     Ok(())
 }
 
 /// Appends Valid and Sorted.
-fn append_bits(front: &mut Vec<u8>) -> Result<(), AllocError> {
-    front.extend_from_slice(&VALID.to_le_bytes())?;
-    front.extend_from_slice(&[0; 8])?;
+fn append_bits(prefix: &mut Vec<u8>) -> Result<(), AllocError> {
+    prefix.extend_from_slice(&VALID.to_le_bytes())?;
+    prefix.extend_from_slice(&[0; 8])?;
     Ok(())
 }
 
 /// Appends one row for each table.
-fn append_counts(front: &mut Vec<u8>) -> Result<(), AllocError> {
+fn append_counts(prefix: &mut Vec<u8>) -> Result<(), AllocError> {
     for _ in SCHEMAS {
-        front.extend_from_slice(&[1, 0, 0, 0])?;
+        prefix.extend_from_slice(&[1, 0, 0, 0])?;
     }
     Ok(())
 }
 
-/// The front of metadata with one row in each table, up to the first row. The stream `#~` has this size.
-fn front(alloc: Global, heap_sizes: u8, size: u32) -> Result<Vec<u8>, AllocError> {
-    let mut front = Vec::from_slice(alloc, FRONT)?;
-    append_stream(&mut front, heap_sizes, size)?;
-    append_bits(&mut front)?;
-    append_counts(&mut front)?;
-    Ok(front)
+/// The start of metadata with one row in each table, up to the first row. The stream `#~` has this size.
+fn prefix(alloc: Global, heap_sizes: u8, size: u32) -> Result<Vec<u8>, AllocError> {
+    let mut prefix = Vec::from_slice(alloc, FRONT)?;
+    append_stream(&mut prefix, heap_sizes, size)?;
+    append_bits(&mut prefix)?;
+    append_counts(&mut prefix)?;
+    Ok(prefix)
 }
 
 /// A cell: where it stands, and its number.
@@ -157,7 +157,7 @@ fn metadata(
     end: u32,
 ) -> Result<Vec<u8>, AllocError> {
     assert!(rt; end >= 0xf8 && end < 0x300);
-    let mut md = front(alloc, heap_sizes, end - 0x48)?;
+    let mut md = prefix(alloc, heap_sizes, end - 0x48)?;
     assert!(rt; md.len() == 0xf8);
     for number in 0xf8..end {
         md.push((number % 256) as u8)?;

@@ -124,21 +124,21 @@ distinct_more keys key are none i j early later same =
     long : length (keys ++ key ∷ []) ≡ suc (length keys)
     long = omega (arith, length-append keys (key ∷ []))
 
-    front : (k : ℕ) → k < length (keys ++ key ∷ []) → k ≢ length keys → k < length keys
-    front k below apart = omega (arith, below, long, apart)
+    prefix : (k : ℕ) → k < length (keys ++ key ∷ []) → k ≢ length keys → k < length keys
+    prefix k below apart = omega (arith, below, long, apart)
 
     by : ((i == length keys ≡ true) × (i ≡ length keys)) ⊎ ((i == length keys ≡ false) × (i ≢ length keys))
         → ((j == length keys ≡ true) × (j ≡ length keys)) ⊎ ((j == length keys ≡ false) × (j ≢ length keys)) → i ≡ j
     by (inl one) (inl two) = one.1 ∙ sym two.1
     by (inl one) (inr two) =
-        let below = front j later two.1 in
+        let below = prefix j later two.1 in
         absurd (not_there keys key j none below (sym (get_or_append_left keys (key ∷ []) [] j below) ∙ sym same ∙ last_of keys key i one.1))
     by (inr one) (inl two) =
-        let below = front i early one.1 in
+        let below = prefix i early one.1 in
         absurd (not_there keys key i none below (sym (get_or_append_left keys (key ∷ []) [] i below) ∙ same ∙ last_of keys key j two.1))
     by (inr one) (inr two) =
-        let first = front i early one.1 in
-        let second = front j later two.1 in
+        let first = prefix i early one.1 in
+        let second = prefix j later two.1 in
         are i j first second (sym (get_or_append_left keys (key ∷ []) [] i first) ∙ same ∙ get_or_append_left keys (key ∷ []) [] j second)
 
 last_among : (count : ℕ) (keys rest : List (List ℕ)) (n bucket number : ℕ) → n ≤ length keys → IsLast count keys n bucket number

@@ -44,7 +44,7 @@ fn left_behind(left: usize, key: &[u8], invariant: &[u8]) -> Option<usize>
 
 /// Returns how many entries a file has room for.
 fn kept_count<E: Entries>(entries: &E) -> usize
-    ensures front { kept (E.entries entries.now) ≡ take result (E.entries entries.now) }
+    ensures prefix { kept (E.entries entries.now) ≡ take result (E.entries entries.now) }
     ensures within { result ≤ length (E.entries entries.now) }
     ensures few { result ≤ 67108864 }
 {

@@ -30,7 +30,7 @@ last_apart (b ∷ bs) c some e =
     drop-cons (b ∷ bs) n 0 before ∙ ap₂ (λ (x : ℕ) (xs : List ℕ). x ∷ xs) e (drop_all (suc n) (b ∷ bs) (omega arith)) in
     sym (take-append-drop n (b ∷ bs)) ∙ ap (λ (xs : List ℕ). take n (b ∷ bs) ++ xs) end
 
-pub brackets_unclosed : (word rest : List ℕ) → word ≡ 91 ∷ rest → ((front : List ℕ) → rest ≢ front ++ 93 ∷ []) → between_brackets word ≡ None
+pub brackets_unclosed : (word rest : List ℕ) → word ≡ 91 ∷ rest → ((prefix : List ℕ) → rest ≢ prefix ++ 93 ∷ []) → between_brackets word ≡ None
 brackets_unclosed word rest e open_end =
     ap between_brackets e
     ∙ ap (λ (t : Bool). cut_at t rest) (ne_eqb _ 93 (λ last. open_end (take (length rest - 1) rest) (last_apart rest 93 (omega arith) last)))
@@ -46,7 +46,7 @@ brackets_at word rest inner e closed =
 
 -- What is left of an opened word where std takes its last bracket off.
 pub closed_by : (word rest : List ℕ) (r : Option (Bor (List ℕ))) → word ≡ 91 ∷ rest
-    → MatchOption r ((front : List ℕ) → rest ≢ front ++ 93 ∷ []) (λ x. rest ≡ x.now ++ 93 ∷ [])
+    → MatchOption r ((prefix : List ℕ) → rest ≢ prefix ++ 93 ∷ []) (λ x. rest ≡ x.now ++ 93 ∷ [])
     → option_map (λ x. x.now) r ≡ between_brackets word
 closed_by word rest None e open_end = sym (brackets_unclosed word rest e open_end)
 closed_by word rest (Some x) e closed = sym (brackets_at word rest x.now e closed)

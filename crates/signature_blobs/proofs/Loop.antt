@@ -7,41 +7,41 @@ use Rattle.signature_blobs.specs.Reading.{Reading, ◌>>=◌}
 use Rattle.signature_blobs.specs.Types.{type_at, types_at}
 
 -- what was read before, and what is still read
-abbrev pub with_front : List Place → Reading (List Place) → Reading (List Place)
-with_front front read = read >>= λ others. Ok (Some (front ++ others))
+abbrev pub with_prefix : List Place → Reading (List Place) → Reading (List Place)
+with_prefix prefix read = read >>= λ others. Ok (Some (prefix ++ others))
 
-regroup : (front : List Place) (place : Place) (read : Reading (List Place)) → with_front front (read >>= λ others. Ok (Some (place ∷ others))) ≡ with_front (front ++ place ∷ []) read
-regroup front place (Ok (Some others)) = ap (λ (places : List Place). Ok (Some places)) (simp append_assoc)
-regroup front place (Ok None) = refl
-regroup front place (Err fault) = refl
+regroup : (prefix : List Place) (place : Place) (read : Reading (List Place)) → with_prefix prefix (read >>= λ others. Ok (Some (place ∷ others))) ≡ with_prefix (prefix ++ place ∷ []) read
+regroup prefix place (Ok (Some others)) = ap (λ (places : List Place). Ok (Some places)) (simp append_assoc)
+regroup prefix place (Ok None) = refl
+regroup prefix place (Err fault) = refl
 
-pub goes_on : (blob : List ℕ) (front : List Place) (count i at : ℕ) (place : Place) (after : ℕ) (total : Reading (List Place)) → i < count → type_at blob at ≡ Ok (Some (place, after))
-    → with_front front (types_at blob at (count - i)) ≡ total → with_front (front ++ place ∷ []) (types_at blob after (count - (i + 1))) ≡ total
+pub goes_on : (blob : List ℕ) (prefix : List Place) (count i at : ℕ) (place : Place) (after : ℕ) (total : Reading (List Place)) → i < count → type_at blob at ≡ Ok (Some (place, after))
+    → with_prefix prefix (types_at blob at (count - i)) ≡ total → with_prefix (prefix ++ place ∷ []) (types_at blob after (count - (i + 1))) ≡ total
 unfolding types_at
-goes_on blob front count i at place after total lt h so_far =
+goes_on blob prefix count i at place after total lt h so_far =
     let k : count - i ≡ suc (count - (i + 1)) = omega arith in
-    let one : with_front front (types_at blob at (count - i)) ≡ with_front (front ++ place ∷ []) (types_at blob after (count - (i + 1))) = rw (k, h) (regroup front place (types_at blob after (count - (i + 1)))) in
+    let one : with_prefix prefix (types_at blob at (count - i)) ≡ with_prefix (prefix ++ place ∷ []) (types_at blob after (count - (i + 1))) = rw (k, h) (regroup prefix place (types_at blob after (count - (i + 1)))) in
     sym one ∙ so_far
 
-pub fails : (blob : List ℕ) (front : List Place) (count i at : ℕ) (fault : SigFault) (total : Reading (List Place)) → i < count → type_at blob at ≡ Err fault
-    → with_front front (types_at blob at (count - i)) ≡ total → Err fault ≡ total
+pub fails : (blob : List ℕ) (prefix : List Place) (count i at : ℕ) (fault : SigFault) (total : Reading (List Place)) → i < count → type_at blob at ≡ Err fault
+    → with_prefix prefix (types_at blob at (count - i)) ≡ total → Err fault ≡ total
 unfolding types_at
-fails blob front count i at fault total lt h so_far =
+fails blob prefix count i at fault total lt h so_far =
     let k : count - i ≡ suc (count - (i + 1)) = omega arith in
-    let one : with_front front (types_at blob at (count - i)) ≡ Err fault = rw (k, h) refl in
+    let one : with_prefix prefix (types_at blob at (count - i)) ≡ Err fault = rw (k, h) refl in
     sym one ∙ so_far
 
-pub leaves : (blob : List ℕ) (front : List Place) (count i at : ℕ) (total : Reading (List Place)) → i < count → type_at blob at ≡ Ok None
-    → with_front front (types_at blob at (count - i)) ≡ total → Ok None ≡ total
+pub leaves : (blob : List ℕ) (prefix : List Place) (count i at : ℕ) (total : Reading (List Place)) → i < count → type_at blob at ≡ Ok None
+    → with_prefix prefix (types_at blob at (count - i)) ≡ total → Ok None ≡ total
 unfolding types_at
-leaves blob front count i at total lt h so_far =
+leaves blob prefix count i at total lt h so_far =
     let k : count - i ≡ suc (count - (i + 1)) = omega arith in
-    let one : with_front front (types_at blob at (count - i)) ≡ Ok None = rw (k, h) refl in
+    let one : with_prefix prefix (types_at blob at (count - i)) ≡ Ok None = rw (k, h) refl in
     sym one ∙ so_far
 
-pub is_done : (blob : List ℕ) (front : List Place) (count i at : ℕ) (total : Reading (List Place)) → count ≤ i → with_front front (types_at blob at (count - i)) ≡ total → Ok (Some front) ≡ total
+pub is_done : (blob : List ℕ) (prefix : List Place) (count i at : ℕ) (total : Reading (List Place)) → count ≤ i → with_prefix prefix (types_at blob at (count - i)) ≡ total → Ok (Some prefix) ≡ total
 unfolding types_at
-is_done blob front count i at total le so_far =
+is_done blob prefix count i at total le so_far =
     let k : count - i ≡ 0 = omega arith in
-    let one : with_front front (types_at blob at (count - i)) ≡ Ok (Some front) = rw k (ap (λ (places : List Place). Ok (Some places)) (append-nil front)) in
+    let one : with_prefix prefix (types_at blob at (count - i)) ≡ Ok (Some prefix) = rw k (ap (λ (places : List Place). Ok (Some places)) (append-nil prefix)) in
     sym one ∙ so_far

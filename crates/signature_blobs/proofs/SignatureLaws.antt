@@ -13,7 +13,7 @@ use Rattle.signature_blobs.specs.declared.local.LocalSig.TheVariants as locals
 use Rattle.signature_blobs.specs.Numbers.{count_at}
 use Rattle.signature_blobs.specs.Spelling.{Stands, SomeStand, StandFrom, Begins, AreValues, SpellsPlaces, SpellsTypeCount, SpellsCount, SpellsTypes, SpellsMethod, SpellsList, SpellsLocals, SpellsArgument, SpellsInstance, type_bytes, has_this, is_generic}
 use Rattle.signature_blobs.specs.Signatures.{by_first, parameters_at, signature_at, types_of, method_signature, locals_at, local_signature, argument_at, spec_signature}
-use Rattle.signature_blobs.proofs.Standing.{nothing_stands, join_stands, front_stands, back_stands, first_stands, whole_stands, begins}
+use Rattle.signature_blobs.proofs.Standing.{nothing_stands, join_stands, prefix_stands, back_stands, first_stands, whole_stands, begins}
 use Rattle.signature_blobs.proofs.NumberLaws.{number_read}
 use Rattle.signature_blobs.proofs.TypeLaws.{places_stand, type_read, result_read, types_read}
 
@@ -117,9 +117,9 @@ signature_read blob bytes generic signature after b stands =
     let all : Stands (x ++ (y ++ (z ++ w))) blob 1 after = subst (λ (t : List ℕ). Stands t blob 1 after) b.parts stands in
     let behind_x = back_stands x (y ++ (z ++ w)) blob 1 after all in
     let behind_y = back_stands y (z ++ w) blob i after behind_x in
-    let start = parameters_read blob x generic i b.type_counted (front_stands x (y ++ (z ++ w)) blob 1 after all) in
-    let count = count_read blob y i (length signature.args) j b.counted.number b.counted.few (front_stands y (z ++ w) blob i after behind_x) in
-    let result = result_read blob j k signature.result (front_stands z w blob j after behind_y) in
+    let start = parameters_read blob x generic i b.type_counted (prefix_stands x (y ++ (z ++ w)) blob 1 after all) in
+    let count = count_read blob y i (length signature.args) j b.counted.number b.counted.few (prefix_stands y (z ++ w) blob i after behind_x) in
+    let result = result_read blob j k signature.result (prefix_stands z w blob j after behind_y) in
     let args = types_read blob k after signature.args b.counted.values (back_stands z w blob j after behind_y) in
     rw (start, count, result, args) refl
 
@@ -145,7 +145,7 @@ pub method_read : (blob : List ℕ) (this generic : Bool) (signature : Signature
 unfolding method_signature types_of
 method_read blob this generic signature begin =
     let s = begin.holds in
-    let o = opens s.convention begin.front s.behind blob begin.rest s.parts begin.parts in
+    let o = opens s.convention begin.prefix s.behind blob begin.rest s.parts begin.parts in
     let read = signature_read blob s.behind generic signature o.end s.types o.stands in
     by_first_is blob s.convention _ o.lt o.is
     ∙ rw (le-ltb 5 (s.convention % 16) (omega (arith, s.default)), eq-eqb (s.convention % 16) 0 s.default, s.this_is, s.generic_is, read) refl
@@ -156,9 +156,9 @@ local_read blob places begin =
     let s = begin.holds in
     let y = s.list.count in
     let w = flat_map type_bytes places in
-    let o = opens 0x07 begin.front s.behind blob begin.rest s.parts begin.parts in
+    let o = opens 0x07 begin.prefix s.behind blob begin.rest s.parts begin.parts in
     let all : Stands (y ++ w) blob 1 o.end = subst (λ (t : List ℕ). Stands t blob 1 o.end) s.list.parts o.stands in
-    let count = count_read blob y 1 (length places) (1 + length y) s.list.counted.number s.list.counted.few (front_stands y w blob 1 o.end all) in
+    let count = count_read blob y 1 (length places) (1 + length y) s.list.counted.number s.list.counted.few (prefix_stands y w blob 1 o.end all) in
     let types = types_read blob (1 + length y) o.end places s.list.counted.values (back_stands y w blob 1 o.end all) in
     by_first_is blob 0x07 _ o.lt o.is ∙ rw (count, types) refl
 
@@ -168,8 +168,8 @@ spec_read blob place begin =
     let s = begin.holds in
     let y = s.argument.count in
     let z = type_bytes place in
-    let o = opens 0x0A begin.front s.behind blob begin.rest s.parts begin.parts in
+    let o = opens 0x0A begin.prefix s.behind blob begin.rest s.parts begin.parts in
     let all : Stands (y ++ z) blob 1 o.end = subst (λ (t : List ℕ). Stands t blob 1 o.end) s.argument.parts o.stands in
-    let count = number_read blob y 1 1 (1 + length y) s.argument.one (front_stands y z blob 1 o.end all) in
+    let count = number_read blob y 1 1 (1 + length y) s.argument.one (prefix_stands y z blob 1 o.end all) in
     let type = type_read blob (1 + length y) o.end place s.argument.value (back_stands y z blob 1 o.end all) in
     by_first_is blob 0x0A _ o.lt o.is ∙ rw (count, type) refl

@@ -20,9 +20,9 @@ pair_stands a b blob at p q =
     let both = join_stands (a ∷ []) (b ∷ []) blob at (at + 1) (at + 1 + 1) p q in
     record { ends = refl; parts = both.parts ∙ ap (λ (k : ℕ). a ∷ b ∷ drop k blob) (omega arith) }
 
--- what is after the front of what stands there
-pub front_stands : (x y blob : List ℕ) (at after : ℕ) → Stands (x ++ y) blob at after → Stands x blob at (at + length x)
-front_stands x y blob at after p =
+-- what is after the prefix of what stands there
+pub prefix_stands : (x y blob : List ℕ) (at after : ℕ) → Stands (x ++ y) blob at after → Stands x blob at (at + length x)
+prefix_stands x y blob at after p =
     let split : drop at blob ≡ x ++ (y ++ drop after blob) = p.parts ∙ append_assoc x y (drop after blob) in
     let behind : drop (at + length x) blob ≡ y ++ drop after blob = sym (drop-drop (length x) at blob) ∙ ap (λ (t : List ℕ). drop (length x) t) split ∙ drop_at x (y ++ drop after blob) (length x) refl in
     record { ends = refl; parts = rw behind split }
@@ -43,10 +43,10 @@ first_stands b bytes blob at after p =
 
 -- What a blob begins with stands at its start, and the other way round.
 
-pub whole_stands : (blob front rest : List ℕ) → blob ≡ front ++ rest → Stands front blob 0 (length front)
-whole_stands blob front rest e = record {
+pub whole_stands : (blob prefix rest : List ℕ) → blob ≡ prefix ++ rest → Stands prefix blob 0 (length prefix)
+whole_stands blob prefix rest e = record {
   ends = omega arith;
-  parts = rw e (ap (λ (t : List ℕ). front ++ t) (sym (drop_at front rest (length front) refl)));
+  parts = rw e (ap (λ (t : List ℕ). prefix ++ t) (sym (drop_at prefix rest (length prefix) refl)));
 }
 
 pub begins : (P Q : List ℕ → Type 0) (blob : List ℕ) (first : ℕ) → 0 < length blob → slice_index blob 0 ≡ first
@@ -54,4 +54,4 @@ pub begins : (P Q : List ℕ → Type 0) (blob : List ℕ) (first : ℕ) → 0 <
 begins P Q blob first lt is behind whole =
     let bytes = behind.some.bytes in
     let all = join_stands (first ∷ []) bytes blob 0 1 behind.after (byte_stands blob 0 first lt is) behind.some.stand in
-    record { front = first ∷ bytes; rest = drop behind.after blob; holds = whole bytes behind.some.holds; parts = all.parts }
+    record { prefix = first ∷ bytes; rest = drop behind.after blob; holds = whole bytes behind.some.holds; parts = all.parts }

@@ -8,7 +8,7 @@ use Rattle.cil_model.specs.declared.place.Place.TheVariants.{Void, Bool as OfBoo
 use Rattle.signature_blobs.specs.Reading.{byte_at}
 use Rattle.signature_blobs.specs.Types.{type_at, result_at, types_at}
 use Rattle.signature_blobs.specs.Spelling.{Stands, SomeStand, StandFrom, SpellsPlaces, type_bytes, AreValues}
-use Rattle.signature_blobs.proofs.Standing.{nothing_stands, join_stands, front_stands, back_stands, first_stands}
+use Rattle.signature_blobs.proofs.Standing.{nothing_stands, join_stands, prefix_stands, back_stands, first_stands}
 
 -- no type, and one more
 pub types-none : (blob : List ℕ) (at : ℕ) → SomeStand (SpellsPlaces []) blob at at
@@ -20,15 +20,15 @@ values-more (first ∷ places) place values value = (values.0, values-more place
 
 pub types-more : (blob : List ℕ) (places : List Place) (place : Place) (at mid after : ℕ) → SomeStand (SpellsPlaces places) blob at mid → place ≢ Void
     → Stands (type_bytes place) blob mid after → SomeStand (SpellsPlaces (places ++ place ∷ [])) blob at after
-types-more blob places place at mid after front value last = record {
-  bytes = front.bytes ++ type_bytes place;
+types-more blob places place at mid after prefix value last = record {
+  bytes = prefix.bytes ++ type_bytes place;
   holds = record {
-    values = values-more places place front.holds.values value;
+    values = values-more places place prefix.holds.values value;
     parts =
-        ap₂ (λ (a b : List ℕ). a ++ b) front.holds.parts (sym (flat_map-cons type_bytes place [] ∙ append-nil (type_bytes place)))
+        ap₂ (λ (a b : List ℕ). a ++ b) prefix.holds.parts (sym (flat_map-cons type_bytes place [] ∙ append-nil (type_bytes place)))
         ∙ sym (flat_map-append type_bytes places (place ∷ []));
   };
-  stand = join_stands front.bytes (type_bytes place) blob at mid after front.stand last;
+  stand = join_stands prefix.bytes (type_bytes place) blob at mid after prefix.stand last;
 }
 
 pub places_stand : (blob : List ℕ) (places : List Place) (at : ℕ) (p : StandFrom (SpellsPlaces places) blob at) → Stands (flat_map type_bytes places) blob at p.after
@@ -71,7 +71,7 @@ unfolding types_at
 types_read blob at after [] values stands = refl
 types_read blob at after (place ∷ places) values stands =
     let both : Stands (type_bytes place ++ flat_map type_bytes places) blob at after = subst (λ (t : List ℕ). Stands t blob at after) (flat_map-cons type_bytes place places) stands in
-    let first = type_read blob at (at + length (type_bytes place)) place values.0 (front_stands (type_bytes place) (flat_map type_bytes places) blob at after both) in
+    let first = type_read blob at (at + length (type_bytes place)) place values.0 (prefix_stands (type_bytes place) (flat_map type_bytes places) blob at after both) in
     let others = types_read blob (at + length (type_bytes place)) after places values.1 (back_stands (type_bytes place) (flat_map type_bytes places) blob at after both) in
     rw (first, others) refl
 

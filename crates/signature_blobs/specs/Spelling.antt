@@ -29,10 +29,10 @@ pub record StandFrom (P : List ℕ → Type 0) (blob : List ℕ) (at : ℕ) : Ty
 
 -- The blob begins with bytes of which this holds.
 pub record Begins (P : List ℕ → Type 0) (blob : List ℕ) : Type 0 where
-  pub front : List ℕ
+  pub prefix : List ℕ
   pub rest : List ℕ
-  pub holds : P front
-  pub parts : blob ≡ front ++ rest
+  pub holds : P prefix
+  pub parts : blob ≡ prefix ++ rest
 
 -- VOID, BOOLEAN, I4, and SZARRAY with its element type (II.23.1.16).
 abbrev pub type_bytes : Place → List ℕ

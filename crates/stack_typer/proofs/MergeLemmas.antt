@@ -96,13 +96,13 @@ merging_ends old before stack changed i end h =
     r ∙ ap Some (append-nil before)
 
 -- Each step merges the kinds at one place.
-step_rest : (a b kind : Kind) (front before stack : List Kind) → merged_kind a b ≡ Some kind
-    → option_map (λ rest. front ++ rest) (merged (a ∷ before) (b ∷ stack)) ≡ option_map (λ rest. (front ++ kind ∷ []) ++ rest) (merged before stack)
-step_rest a b kind front before stack e = rw e (through (merged before stack))
+step_rest : (a b kind : Kind) (prefix before stack : List Kind) → merged_kind a b ≡ Some kind
+    → option_map (λ rest. prefix ++ rest) (merged (a ∷ before) (b ∷ stack)) ≡ option_map (λ rest. (prefix ++ kind ∷ []) ++ rest) (merged before stack)
+step_rest a b kind prefix before stack e = rw e (through (merged before stack))
   where
-    through : (m : Option (List Kind)) → option_map (λ rest. front ++ rest) (with_kind (Some kind) m) ≡ option_map (λ rest. (front ++ kind ∷ []) ++ rest) m
+    through : (m : Option (List Kind)) → option_map (λ rest. prefix ++ rest) (with_kind (Some kind) m) ≡ option_map (λ rest. (prefix ++ kind ∷ []) ++ rest) m
     through None = refl
-    through (Some kinds) = ap Some (sym (append_assoc front (kind ∷ []) kinds))
+    through (Some kinds) = ap Some (sym (append_assoc prefix (kind ∷ []) kinds))
 
 -- What is known at a place.
 record Here (old before stack : List Kind) (i : ℕ) (d e kind : Kind) : Type 0 where

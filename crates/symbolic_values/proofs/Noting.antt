@@ -20,12 +20,12 @@ searched p (x ∷ xs) = searched_behind p x xs (p x) refl (searched p xs)
 
 -- ---- a place among more
 
-pub place_front : {X : Type 0} (p : X → Bool) (xs ys : List X) → position_or_len p xs < length xs → position_or_len p (xs ++ ys) ≡ position_or_len p xs
-place_front p [] ys there = absurd (omega arith)
-place_front p (x ∷ xs) ys there =
+pub place_prefix : {X : Type 0} (p : X → Bool) (xs ys : List X) → position_or_len p xs < length xs → position_or_len p (xs ++ ys) ≡ position_or_len p xs
+place_prefix p [] ys there = absurd (omega arith)
+place_prefix p (x ∷ xs) ys there =
     elim (p x) as (λ b. cond (not b) (1 + position_or_len p xs) 0 < suc (length xs) → cond (not b) (1 + position_or_len p (xs ++ ys)) 0 ≡ cond (not b) (1 + position_or_len p xs) 0) [
       | true ↦ λ _. refl
-      | false ↦ λ below. ap (λ n. 1 + n) (place_front p xs ys (omega (arith, below)))
+      | false ↦ λ below. ap (λ n. 1 + n) (place_prefix p xs ys (omega (arith, below)))
     ] there
 
 pub place_behind : {X : Type 0} (p : X → Bool) (xs : List X) (y : X) → position_or_len p xs ≡ length xs → p y ≡ true → position_or_len p (xs ++ y ∷ []) ≡ length xs
@@ -63,7 +63,7 @@ module _ {X : Type 0} (same : X → X → Bool) where
   pub place_there : (known : List X) (u : X) → same u u ≡ true → position_or_len (same u) known < length (noted same known u)
   place_there known u itself = omega (arith, place-noted known u itself, noted_there known u itself)
 
-  -- ---- whatever is noted behind, the front stays
+  -- ---- whatever is noted behind, the prefix stays
 
   pub data Extends (known later : List X) : Type 0 where
     by_more : (more : List X) → later ≡ known ++ more → Extends known later

@@ -6,7 +6,7 @@ use Rattle.domain_api.specs.declared.expr.Expr.{Expr}
 use Rattle.symbolic_values.specs.declared.pairs.Key.{Key}
 use Rattle.symbolic_values.specs.FirstUses.{noted, first_uses}
 use Rattle.symbolic_values.specs.Pairing.{same_key, origin, named, name_at, number_in, use_of, uses_of, known_in, behind_first, paired}
-use Rattle.symbolic_values.proofs.Noting.{Extends, by_more, place_front, noted_there, first_uses_extend}
+use Rattle.symbolic_values.proofs.Noting.{Extends, by_more, place_prefix, noted_there, first_uses_extend}
 use Rattle.symbolic_values.proofs.Keys.{same_itself}
 
 -- ---- the uses of two lists
@@ -25,15 +25,15 @@ drop-uses_of (x ∷ a) (y ∷ b) (suc i) d below same = drop-uses_of a b i d (om
 
 -- ---- names stay
 
-get_or_front : (known more : List Key) (n : ℕ) → n < length known → get_or (known ++ more) n origin ≡ get_or known n origin
-get_or_front [] more n below = absurd (omega (arith, below))
-get_or_front (u ∷ known) more zero below = refl
-get_or_front (u ∷ known) more (suc n) below = get_or_front known more n (omega (arith, below))
+get_or_prefix : (known more : List Key) (n : ℕ) → n < length known → get_or (known ++ more) n origin ≡ get_or known n origin
+get_or_prefix [] more n below = absurd (omega (arith, below))
+get_or_prefix (u ∷ known) more zero below = refl
+get_or_prefix (u ∷ known) more (suc n) below = get_or_prefix known more n (omega (arith, below))
 
 pub named_later : (known later : List Key) (u : Key) → Extends same_key known later → number_in known u < length known → named later u ≡ named known u
 named_later known later u (by_more more is) there =
-    let number : number_in later u ≡ number_in known u = ap (position_or_len (same_key u)) is ∙ place_front (same_key u) known more there in
-    let at : get_or later (number_in known u) origin ≡ get_or known (number_in known u) origin = ap (λ l. get_or l (number_in known u) origin) is ∙ get_or_front known more (number_in known u) there in
+    let number : number_in later u ≡ number_in known u = ap (position_or_len (same_key u)) is ∙ place_prefix (same_key u) known more there in
+    let at : get_or later (number_in known u) origin ≡ get_or known (number_in known u) origin = ap (λ l. get_or l (number_in known u) origin) is ∙ get_or_prefix known more (number_in known u) there in
     ap (name_at later u.first) number ∙ ap (λ (k : Key). record { sym = number_in known u; k = u.first -ℤ k.first }) at
 
 -- ---- the loop

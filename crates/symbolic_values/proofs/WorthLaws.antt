@@ -9,7 +9,7 @@ use Rattle.symbolic_values.specs.FirstUses.{noted, first_uses}
 use Rattle.symbolic_values.specs.Pairing.{same_key, origin, named, number_in, uses_of, known_in, behind_first, paired}
 use Rattle.symbolic_values.specs.Worth.{worth, worth_of_use, behind_uses}
 use Rattle.symbolic_values.proofs.Keys.{HaveOneKey, same_itself, same_key_is}
-use Rattle.symbolic_values.proofs.Noting.{Extends, by_more, place_front, noted_there, first_uses_extend}
+use Rattle.symbolic_values.proofs.Noting.{Extends, by_more, place_prefix, noted_there, first_uses_extend}
 
 less_and_more : (number first later : ℤ) → ((number +ℤ first) +ℤ (later -ℤ first)) ≡ (number +ℤ later)
 less_and_more number first later = omega (arith, ints)
@@ -39,7 +39,7 @@ AllKnown known (u ∷ us) = (number_in known u < length known) × AllKnown known
 
 known_later : (known later : List Key) (u : Key) → Extends same_key known later → number_in known u < length known → number_in later u < length later
 known_later known later u (by_more more is) there =
-    subst (λ l. number_in l u < length l) (sym is) (omega (arith, place_front (same_key u) known more there, length-append known more))
+    subst (λ l. number_in l u < length l) (sym is) (omega (arith, place_prefix (same_key u) known more there, length-append known more))
 
 pub all_known : (known us : List Key) → AllKnown (first_uses same_key known us) us
 all_known known [] = tt

@@ -26,7 +26,7 @@ use Rattle.state_facts.specs.States as states
 use Rattle.transfer_rules.specs.Acts.{calculated, complemented, negated, operated, taken_from, with_item_of, with_item_put, with_length, with_new, with_number_put}
 use Rattle.transfer_rules.specs.Operands.{Took, TookTwo, on_one, on_three, on_two, over_one, over_two, with_one}
 use Rattle.transfer_rules.specs.Owed.{AreReadyFor, IsReady}
-use Rattle.transfer_rules.specs.Laws.Tops.{front}
+use Rattle.transfer_rules.specs.Laws.Tops.{prefix}
 use Rattle.transfer_rules.proofs.Taking.{still_there}
 
 -- ---- operators
@@ -84,7 +84,7 @@ under_top (x ∷ xs) =
     ap (λ (ys : List Var). slice_get ys 1) (reverse-reverse (x ∷ xs))
     ∙ ap (λ (ys : List Var). slice_get ys 0) (sym (reverse-reverse xs))
     ∙ ap (λ (ys : List Var). slice_get (reverse ys) 0)
-    (sym (ap (λ (ys : List Var). take (length ys - 1) ys) turned ∙ front (reverse xs) x))
+    (sym (ap (λ (ys : List Var). take (length ys - 1) ys) turned ∙ prefix (reverse xs) x))
 
 second_is : (known : StateFacts) → from_top 1 known ≡ from_top 0 (popped known)
 unfolding popped

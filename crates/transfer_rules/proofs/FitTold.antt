@@ -80,49 +80,49 @@ kind_told kind v known there = never kind v known refl (λ fits. elim fits [ ])
 
 -- ---- variables in a row
 
-seam : (front : List Var) (v : Var) (vs : List Var) → slice_get (front ++ v ∷ vs) (length front) ≡ Some v
+seam : (prefix : List Var) (v : Var) (vs : List Var) → slice_get (prefix ++ v ∷ vs) (length prefix) ≡ Some v
 seam [] v vs = refl
-seam (w ∷ front) v vs = seam front v vs
+seam (w ∷ prefix) v vs = seam prefix v vs
 
 module _ (known : StateFacts) where
-  here_is : (front : List Var) (v : Var) (vs : List Var) (i : ℕ) → known.variables ≡ front ++ v ∷ vs → i ≡ length front
+  here_is : (prefix : List Var) (v : Var) (vs : List Var) (i : ℕ) → known.variables ≡ prefix ++ v ∷ vs → i ≡ length prefix
       → slice_get known.variables i ≡ Some v
-  here_is front v vs i are at = ap (λ n. slice_get known.variables n) at ∙ ap (λ l. slice_get l (length front)) are ∙ seam front v vs
+  here_is prefix v vs i are at = ap (λ n. slice_get known.variables n) at ∙ ap (λ l. slice_get l (length prefix)) are ∙ seam prefix v vs
 
-  next_are : (front : List Var) (v : Var) (vs : List Var) → known.variables ≡ front ++ v ∷ vs
-      → known.variables ≡ (front ++ v ∷ []) ++ vs
-  next_are front v vs are = are ∙ sym (append_assoc front (v ∷ []) vs)
+  next_are : (prefix : List Var) (v : Var) (vs : List Var) → known.variables ≡ prefix ++ v ∷ vs
+      → known.variables ≡ (prefix ++ v ∷ []) ++ vs
+  next_are prefix v vs are = are ∙ sym (append_assoc prefix (v ∷ []) vs)
 
-  next_at : (front : List Var) (v : Var) (i : ℕ) → i ≡ length front → i + 1 ≡ length (front ++ v ∷ [])
-  next_at front v i at = omega (arith, at, length-append front (v ∷ []))
+  next_at : (prefix : List Var) (v : Var) (i : ℕ) → i ≡ length prefix → i + 1 ≡ length (prefix ++ v ∷ [])
+  next_at prefix v i at = omega (arith, at, length-append prefix (v ∷ []))
 
-  fitting : (front vs : List Var) (ks : List Kind) (i : ℕ) → known.variables ≡ front ++ vs → i ≡ length front
+  fitting : (prefix vs : List Var) (ks : List Kind) (i : ℕ) → known.variables ≡ prefix ++ vs → i ≡ length prefix
       → AllByRecursion (HasVar known) vs → length vs ≡ length ks → fit_from (Some known) ks i ≡ true
       → FitKinds known ks vs
-  fitting front [] [] i are at there long test = tt
-  fitting front [] (k ∷ ks) i are at there long test = absurd (omega (arith, long))
-  fitting front (v ∷ vs) [] i are at there long test = absurd (omega (arith, long))
-  fitting front (v ∷ vs) (k ∷ ks) i are at there long test =
+  fitting prefix [] [] i are at there long test = tt
+  fitting prefix [] (k ∷ ks) i are at there long test = absurd (omega (arith, long))
+  fitting prefix (v ∷ vs) [] i are at there long test = absurd (omega (arith, long))
+  fitting prefix (v ∷ vs) (k ∷ ks) i are at there long test =
       let both = and_parts (fits_there k (slice_get known.variables i) (Some known)) (fit_from (Some known) ks (i + 1)) test in (
         (kind_told k v known there.0).0
-            (subst (λ o. fits_there k o (Some known) ≡ true) (here_is front v vs i are at) both.0),
-        fitting (front ++ v ∷ []) vs ks (i + 1) (next_are front v vs are) (next_at front v i at) there.1
+            (subst (λ o. fits_there k o (Some known) ≡ true) (here_is prefix v vs i are at) both.0),
+        fitting (prefix ++ v ∷ []) vs ks (i + 1) (next_are prefix v vs are) (next_at prefix v i at) there.1
             (omega (arith, long)) both.1,
       )
 
   both_true : (a b : Bool) → a ≡ true → b ≡ true → (a && b) ≡ true
   both_true a b p q = rw (p, q) refl
 
-  told : (front vs : List Var) (ks : List Kind) (i : ℕ) → known.variables ≡ front ++ vs → i ≡ length front
+  told : (prefix vs : List Var) (ks : List Kind) (i : ℕ) → known.variables ≡ prefix ++ vs → i ≡ length prefix
       → AllByRecursion (HasVar known) vs → FitKinds known ks vs
       → (fit_from (Some known) ks i ≡ true) × (length vs ≡ length ks)
-  told front [] [] i are at there fits = (refl, refl)
-  told front [] (k ∷ ks) i are at there fits = elim fits [ ]
-  told front (v ∷ vs) [] i are at there fits = elim fits [ ]
-  told front (v ∷ vs) (k ∷ ks) i are at there fits =
-      let rest = told (front ++ v ∷ []) vs ks (i + 1) (next_are front v vs are) (next_at front v i at) there.1 fits.1 in (
+  told prefix [] [] i are at there fits = (refl, refl)
+  told prefix [] (k ∷ ks) i are at there fits = elim fits [ ]
+  told prefix (v ∷ vs) [] i are at there fits = elim fits [ ]
+  told prefix (v ∷ vs) (k ∷ ks) i are at there fits =
+      let rest = told (prefix ++ v ∷ []) vs ks (i + 1) (next_are prefix v vs are) (next_at prefix v i at) there.1 fits.1 in (
         both_true (fits_there k (slice_get known.variables i) (Some known)) (fit_from (Some known) ks (i + 1))
-            (subst (λ o. fits_there k o (Some known) ≡ true) (sym (here_is front v vs i are at))
+            (subst (λ o. fits_there k o (Some known) ≡ true) (sym (here_is prefix v vs i are at))
             ((kind_told k v known there.0).1 fits.0)) rest.0,
         omega (arith, rest.1),
       )

@@ -33,25 +33,25 @@ module _ (unit : MethodUnit) (number : ℕ) (state : State) (is : List Instr) (k
 
 -- ---- the walk of a loop over all instructions but the last
 
-abbrev front : List Instr → List Instr
-front is = take (length is - 1) is
+abbrev prefix : List Instr → List Instr
+prefix is = take (length is - 1) is
 
 module _ (unit : MethodUnit) (number : ℕ) (is : List Instr) (k : ℕ) (i : Instr) where
-  in_front : k < length (front is) → i ≡ get_or (front is) k i → (k + 1 < length is) × (i ≡ get_or is k i)
-  in_front below there = (
+  in_prefix : k < length (prefix is) → i ≡ get_or (prefix is) k i → (k + 1 < length is) × (i ≡ get_or is k i)
+  in_prefix below there = (
     omega (arith, below, length-take (length is - 1) is),
     there ∙ get_or-take (length is - 1) is k i (omega (arith, below, length-take (length is - 1) is)),
   )
 
   -- The rest of the way comes to the same.
-  pub walk_goes_on : (state : State) → k < length (front is) → i ≡ get_or (front is) k i
+  pub walk_goes_on : (state : State) → k < length (prefix is) → i ≡ get_or (prefix is) k i
       → through unit number (drop (k + 1) is) (post unit i.op state) ≡ through unit number (drop k is) state
   walk_goes_on state below there =
-      let is_it = in_front below there in
+      let is_it = in_prefix below there in
       subst (λ (j : Instr). through unit number (drop (k + 1) is) (post unit j.op state)
       ≡ through unit number (drop k is) state) (sym is_it.1) (same_way unit number state is k i i is_it.0)
 
-  one_left : 1 ≤ length is → length (front is) ≤ k → k ≤ length (front is) → i ≡ get_or is (length is - 1) i
+  one_left : 1 ≤ length is → length (prefix is) ≤ k → k ≤ length (prefix is) → i ≡ get_or is (length is - 1) i
       → drop k is ≡ i ∷ []
   one_left some least most there =
       let last : k ≡ length is - 1 = omega (arith, some, least, most, length-take (length is - 1) is) in
@@ -62,7 +62,7 @@ module _ (unit : MethodUnit) (number : ℕ) (is : List Instr) (k : ℕ) (i : Ins
       two : (j : Instr) (js : List Instr) → j ≡ i → js ≡ [] → j ∷ js ≡ i ∷ []
       two j js p q = cc
 
-  pub walk_ends : (state : State) → 1 ≤ length is → length (front is) ≤ k → k ≤ length (front is)
+  pub walk_ends : (state : State) → 1 ≤ length is → length (prefix is) ≤ k → k ≤ length (prefix is)
       → i ≡ get_or is (length is - 1) i → through unit number (drop k is) state ≡ along unit i.op number state
   walk_ends state some least most there = rw (one_left some least most there) refl
 
@@ -76,10 +76,10 @@ module _ (unit : MethodUnit) (number : ℕ) (is : List Instr) (k : ℕ) (i : Ins
       two : (j : Instr) (js : List Instr) → j ≡ i → js ≡ drop (k + 1) is → j ∷ js ≡ i ∷ drop (k + 1) is
       two j js p q = cc
 
-  ready_there : (state : State) → k < length (front is) → i ≡ get_or (front is) k i → AreReady unit (drop k is) state
+  ready_there : (state : State) → k < length (prefix is) → i ≡ get_or (prefix is) k i → AreReady unit (drop k is) state
       → AreReady unit (i ∷ drop (k + 1) is) state
   ready_there state below there ready =
-      let is_it = in_front below there in
+      let is_it = in_prefix below there in
       subst (λ (l : List Instr). AreReady unit l state) (split_at is_it.0 is_it.1) ready
 
 -- The states that are still to be gone through come to the same, and each rule may be asked of its state.
@@ -93,23 +93,23 @@ walk_begins unit number is first ready = record { same = refl; ready = ready }
 
 module _ (unit : MethodUnit) (number : ℕ) (is : List Instr) (first state : State) (k : ℕ) (i : Instr)
     (way : IsOnWay unit number is first state k) where
-  pub next_ready : k < length (front is) → i ≡ get_or (front is) k i → CanDo unit i.op state
+  pub next_ready : k < length (prefix is) → i ≡ get_or (prefix is) k i → CanDo unit i.op state
   next_ready below there = (ready_there unit number is k i state below there way.ready).0
 
-  pub on_way : k < length (front is) → i ≡ get_or (front is) k i
+  pub on_way : k < length (prefix is) → i ≡ get_or (prefix is) k i
       → IsOnWay unit number is first (post unit i.op state) (k + 1)
   on_way below there = record {
     same = walk_goes_on unit number is k i state below there ∙ way.same;
     ready = (ready_there unit number is k i state below there way.ready).1;
   }
 
-  pub last_ready : 1 ≤ length is → length (front is) ≤ k → k ≤ length (front is) → i ≡ get_or is (length is - 1) i
+  pub last_ready : 1 ≤ length is → length (prefix is) ≤ k → k ≤ length (prefix is) → i ≡ get_or is (length is - 1) i
       → CanDo unit i.op state
   last_ready some least most there =
       (subst (λ (l : List Instr). AreReady unit l state) (one_left unit number is k i some least most there)
       way.ready).0
 
-  pub walk_done : 1 ≤ length is → length (front is) ≤ k → k ≤ length (front is) → i ≡ get_or is (length is - 1) i
+  pub walk_done : 1 ≤ length is → length (prefix is) ≤ k → k ≤ length (prefix is) → i ≡ get_or is (length is - 1) i
       → along unit i.op number state ≡ through unit number is first
   walk_done some least most there = sym (walk_ends unit number is k i state some least most there) ∙ way.same
 

@@ -59,9 +59,9 @@ unfolding header_tests
 header_passed s method header none =
     let code = must (nat_le header.code_len MAX_CODE_BYTES) TooLarge in
     let variables = must (nat_le (variable_count s.asm method header) MAX_VARIABLES) TooLarge in
-    let front =
+    let prefix =
     must (is_some (locals_named s.asm header)) LocalType ∷ must (has_none (locals_told s.asm header) || header.init_locals) LocalsNotZero ∷ must (not header.more_sections) Section ∷ [] in
-    let behind = none_behind front (code ∷ variables ∷ name_test method ∷ []) none in
+    let behind = none_behind prefix (code ∷ variables ∷ name_test method ∷ []) none in
     let behind_code = none_behind (code ∷ []) (variables ∷ name_test method ∷ []) behind in
     let behind_variables = none_behind (variables ∷ []) (name_test method ∷ []) behind_code in
     record {

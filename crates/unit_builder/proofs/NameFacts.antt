@@ -22,33 +22,33 @@ use Rattle.unit_builder.specs.Rows.{IsRowOf}
 
 -- A row's printed name is a name and the types of its parameters.
 pub record IsNamed (asm : List ℕ) (method : MethodRow) : Type 0 where
-  pub front : List ℕ
-  pub front_is : (number : ℕ) × (front ≡ short_name (metadata asm) number)
-  pub whole : method.name ≡ front ++ types_text method.sig.types
+  pub prefix : List ℕ
+  pub prefix_is : (number : ℕ) × (prefix ≡ short_name (metadata asm) number)
+  pub whole : method.name ≡ prefix ++ types_text method.sig.types
 
 row_parts : (asm : List ℕ) (number : ℕ) → IsNamed asm (method_row (metadata asm) number)
 unfolding method_row printed_name
-row_parts asm number = record { front = short_name (metadata asm) number; front_is = (number, refl); whole = refl }
+row_parts asm number = record { prefix = short_name (metadata asm) number; prefix_is = (number, refl); whole = refl }
 
 pub row_named : (asm : List ℕ) (method : MethodRow) → IsRowOf asm method → IsNamed asm method
 row_named asm method row = subst (IsNamed asm) (sym row.row_is) (row_parts asm row.number)
 
-front_cut : (front types : List ℕ) → take (length (front ++ types) - length types) (front ++ types) ≡ front
-front_cut front types =
-    let long : length (front ++ types) - length types ≡ length front = let both = length-append front types in omega (arith, both) in
-    rw long (take-append_seam front types)
+prefix_cut : (prefix types : List ℕ) → take (length (prefix ++ types) - length types) (prefix ++ types) ≡ prefix
+prefix_cut prefix types =
+    let long : length (prefix ++ types) - length types ≡ length prefix = let both = length-append prefix types in omega (arith, both) in
+    rw long (take-append_seam prefix types)
 
-pub name_is : (asm : List ℕ) (method : MethodRow) (named : IsNamed asm method) → unit_name method ≡ named.front
+pub name_is : (asm : List ℕ) (method : MethodRow) (named : IsNamed asm method) → unit_name method ≡ named.prefix
 unfolding unit_name
 name_is asm method named =
-    subst (λ (name : List ℕ). take (length name - length (types_text method.sig.types)) name ≡ named.front) (sym named.whole) (front_cut named.front (types_text method.sig.types))
+    subst (λ (name : List ℕ). take (length name - length (types_text method.sig.types)) name ≡ named.prefix) (sym named.whole) (prefix_cut named.prefix (types_text method.sig.types))
 
--- What is cut so that each name is its front is the name of the unit.
+-- What is cut so that each name is its prefix is the name of the unit.
 pub name_cut : (method : MethodRow) (cut : List ℕ) → ((asm : List ℕ) × IsRowOf asm method)
-    → ((front : List ℕ) (types : SigTypes) → method.name ≡ front ++ types_text types → cut ≡ front) → cut ≡ unit_name method
+    → ((prefix : List ℕ) (types : SigTypes) → method.name ≡ prefix ++ types_text types → cut ≡ prefix) → cut ≡ unit_name method
 name_cut method cut (asm, row) cuts =
     let named = row_named asm method row in
-    cuts named.front method.sig.types named.whole ∙ sym (name_is asm method named)
+    cuts named.prefix method.sig.types named.whole ∙ sym (name_is asm method named)
 
 -- ---- graphic characters
 
@@ -110,6 +110,6 @@ unfolding AreGraphic
 name_fits asm method row short =
     let named = row_named asm method row in
     record {
-      graphic = subst AreGraphic (sym (name_is asm method named ∙ named.front_is.1)) (short_graphic (metadata asm) named.front_is.0);
+      graphic = subst AreGraphic (sym (name_is asm method named ∙ named.prefix_is.1)) (short_graphic (metadata asm) named.prefix_is.0);
       short = short;
     }

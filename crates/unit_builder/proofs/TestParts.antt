@@ -19,9 +19,9 @@ use Rattle.unit_builder.specs.declared.reason.Reason.TheVariants.{Instance, Gene
 pub row_body : (method : MethodRow) → first_of (row_tests method) ≡ None → has_il_body method ≡ true
 unfolding row_tests
 row_body method none =
-    let front = must (is_static method) Instance ∷ must (not method.sig.generic) Generic ∷ [] in
+    let prefix = must (is_static method) Instance ∷ must (not method.sig.generic) Generic ∷ [] in
     let body = must (has_il_body method) NoBody in
-    (must_hold (has_il_body method) NoBody).0 (none_here body (must (are_known method.sig.types) SignatureType ∷ []) (none_behind front (body ∷ must (are_known method.sig.types) SignatureType ∷ []) none))
+    (must_hold (has_il_body method) NoBody).0 (none_here body (must (are_known method.sig.types) SignatureType ∷ []) (none_behind prefix (body ∷ must (are_known method.sig.types) SignatureType ∷ []) none))
 
 -- The callees of code that passes its tests have names that fit.
 pub own_short : (s : Scope) (method : MethodRow) → first_of (own_tests s method) ≡ None → list_all (has_short_name s.info) (callee_keys s method) ≡ true

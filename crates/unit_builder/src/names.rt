@@ -14,7 +14,7 @@ use cil_model::MAX_NAME_BYTES;
 
 /// A printed name up to the types of its parameters.
 fn up_to_types(name: &[u8]) -> &[u8]
-    ensures { (front : List ℕ) (types : SigTypes) → name.now ≡ front ++ types_text types → result.now ≡ front }
+    ensures { (prefix : List ℕ) (types : SigTypes) → name.now ≡ prefix ++ types_text types → result.now ≡ prefix }
 {
     match name.iter().rposition(|&byte| byte == b'(') {
         Some(end) => &name[..end],

@@ -20,7 +20,7 @@ use Rattle.cil_model.specs.declared.machine.Value.{Value}
 use Rattle.cil_model.specs.declared.machine.Value.TheVariants.{Int}
 use Rattle.cil_model.specs.declared.unit.Unit.{Unit as MethodUnit}
 use Rattle.flow_graph.proofs.EffectsGo.{IsOneOf}
-use Rattle.flow_graph.proofs.Items.{in_front, last_there}
+use Rattle.flow_graph.proofs.Items.{in_prefix, last_there}
 use Rattle.flow_graph.proofs.StepsGo.{goes_on, no_return, row_found, step_goes}
 use Rattle.flow_graph.proofs.Successors.{only_next}
 use Rattle.machine_points.specs.Points.{lives_at}
@@ -80,7 +80,7 @@ case_taken targets n i f g heap after rest None is has =
 case_taken targets n i f g heap after rest (Some target) is has =
     let below = slice_get_within targets n target is in
     let here : min n (length targets) ≡ n = omega (arith, below) in
-    rw here (in_front targets ((i.at + i.size) ∷ []) n target is ∙ at_of _ g heap after has)
+    rw here (in_prefix targets ((i.at + i.size) ∷ []) n target is ∙ at_of _ g heap after has)
 
 switch_taken : (targets : List ℕ) (i : Instr) (f g : Frame) (heap after : Heap) (stack : List Value)
     → HasEffect (switches targets i f heap stack) (GoesOn g after)

@@ -68,10 +68,10 @@ on_any P (Err e) is = tt
 
 -- ---- one after another
 
-all_append : (front back : List Entry) → AllByRecursion IsEntry front → AllByRecursion IsEntry back
-    → AllByRecursion IsEntry (front ++ back)
+all_append : (prefix back : List Entry) → AllByRecursion IsEntry prefix → AllByRecursion IsEntry back
+    → AllByRecursion IsEntry (prefix ++ back)
 all_append [] back all more = more
-all_append (e ∷ front) back all more = (all.0, all_append front back all.1 more)
+all_append (e ∷ prefix) back all more = (all.0, all_append prefix back all.1 more)
 
 as_list : (o : Option Entry) → cons_option o [] ≡ option_to_list o
 as_list None = refl

@@ -4,10 +4,10 @@ use Rattle.std.specs.Prelude.{is_some, not}
 use Rattle.std.proofs.lemmas.List.Elements.{filter-append}
 use Rattle.result_cache.specs.Entries.{Entry, invariant_of, is_among, keys_of}
 use Rattle.result_cache.proofs.EntryLemmas.{found_among}
-use Rattle.unit_verdicts.specs.Asked.{Asks, AsksFront, asked_from, unseen, without_entry}
+use Rattle.unit_verdicts.specs.Asked.{Asks, AsksPrefix, asked_from, unseen, without_entry}
 use Rattle.unit_verdicts.specs.declared.source.Source.{Source}
 use Rattle.unit_verdicts.specs.declared.source.Source.TheVariants.{Cache as OfCache, Proof as OfProof}
-use Rattle.unit_verdicts.proofs.Asking.{asks_all, front_behind, front_more}
+use Rattle.unit_verdicts.proofs.Asking.{asks_all, prefix_behind, prefix_more}
 
 abbrev Keys : Type 0
 Keys = List (List ℕ)
@@ -83,19 +83,19 @@ judged_then seen judged new a b brought is =
 
 -- ---- what was asked for keys, and then for others
 
-pub front_first : (held : Source) (seen a b old new : Keys) → AsksFront (new_keys held seen a) old new
-    → AsksFront (new_keys held seen (a ++ b)) old new
-front_first held seen a b old new front =
+pub prefix_first : (held : Source) (seen a b old new : Keys) → AsksPrefix (new_keys held seen a) old new
+    → AsksPrefix (new_keys held seen (a ++ b)) old new
+prefix_first held seen a b old new prefix =
     let judged = seen ++ unseen seen a in
-    subst (λ (keys : Keys). AsksFront keys old new) (sym (new_behind held seen judged a b refl))
-    (front_more (new_keys held seen a) (new_keys held judged b) old new front)
+    subst (λ (keys : Keys). AsksPrefix keys old new) (sym (new_behind held seen judged a b refl))
+    (prefix_more (new_keys held seen a) (new_keys held judged b) old new prefix)
 
-pub front_then : (held : Source) (seen judged a b old mid new : Keys) → judged ≡ seen ++ unseen seen a
+pub prefix_then : (held : Source) (seen judged a b old mid new : Keys) → judged ≡ seen ++ unseen seen a
     → mid ≡ old ++ new_keys held seen a
-    → AsksFront (new_keys held judged b) mid new → AsksFront (new_keys held seen (a ++ b)) old new
-front_then held seen judged a b old mid new brought asked front =
-    subst (λ (keys : Keys). AsksFront keys old new) (sym (new_behind held seen judged a b brought))
-    (front_behind (new_keys held seen a) (new_keys held judged b) old mid new asked front)
+    → AsksPrefix (new_keys held judged b) mid new → AsksPrefix (new_keys held seen (a ++ b)) old new
+prefix_then held seen judged a b old mid new brought asked prefix =
+    subst (λ (keys : Keys). AsksPrefix keys old new) (sym (new_behind held seen judged a b brought))
+    (prefix_behind (new_keys held seen a) (new_keys held judged b) old mid new asked prefix)
 
 pub asked_then : (held : Source) (seen judged a b old mid new : Keys) → judged ≡ seen ++ unseen seen a
     → mid ≡ old ++ new_keys held seen a
@@ -112,4 +112,4 @@ pub asks_then : {X E : Type 0} (held : Source) (seen judged a b old mid new : Ke
 asks_then held seen judged a b old mid new (Ok x) brought asked asks =
     asks_all (new_keys held seen (a ++ b)) (Ok x) old new (asked_then held seen judged a b old mid new brought asked asks.whole)
 asks_then held seen judged a b old mid new (Err e) brought asked asks =
-    record { front = front_then held seen judged a b old mid new brought asked asks.front; whole = tt }
+    record { prefix = prefix_then held seen judged a b old mid new brought asked asks.prefix; whole = tt }

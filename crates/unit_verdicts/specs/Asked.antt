@@ -25,11 +25,11 @@ asked_from (OfProof entries) keys = []
 
 -- ---- what a finder was asked for
 
--- A front of these was asked.
-abbrev pub AsksFront : List (List ℕ) → List (List ℕ) → List (List ℕ) → Type 0
-AsksFront keys old new = (front : List (List ℕ)) × ((rest : List (List ℕ)) × (keys ≡ front ++ rest)) × (new ≡ old ++ front)
+-- A prefix of these was asked.
+abbrev pub AsksPrefix : List (List ℕ) → List (List ℕ) → List (List ℕ) → Type 0
+AsksPrefix keys old new = (prefix : List (List ℕ)) × ((rest : List (List ℕ)) × (keys ≡ prefix ++ rest)) × (new ≡ old ++ prefix)
 
 -- A call that gave this asked for these, or for a prefix of them where it was interrupted.
 pub record Asks {X E : Type 0} (keys : List (List ℕ)) (result : Result X E) (old new : List (List ℕ)) : Type 0 where
-  pub front : AsksFront keys old new
+  pub prefix : AsksPrefix keys old new
   pub whole : IfOk result (λ _. new ≡ old ++ keys)

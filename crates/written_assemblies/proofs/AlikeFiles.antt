@@ -202,7 +202,7 @@ strings_alike p q e =
     let cited = ap (λ (f : Name → List ℕ). map f cited_names) (fun_ext (λ (name : Name). ap zero_ended (names_of p q e name))) in
     let own = map_alike method_name_item name_alike p.methods.items q.methods.items (ap (λ (v : Plan). v.methods) e) in
     ap (λ (items : List (List ℕ)). filled (packed items))
-    (ap (λ (front : List (List ℕ)). front ++ map method_name_item p.methods.items ++ [] ++ own_name_items p p.class.items) cited
+    (ap (λ (prefix : List (List ℕ)). prefix ++ map method_name_item p.methods.items ++ [] ++ own_name_items p p.class.items) cited
     ∙ ap (λ (rest : List (List ℕ)). map (name_item q) cited_names ++ rest ++ [] ++ own_name_items p p.class.items) own
     ∙ ap (λ (last : List (List ℕ)). map (name_item q) cited_names ++ map method_name_item q.methods.items ++ [] ++ last) (own_name_alike p q e))
 

@@ -41,8 +41,8 @@ whole content rest few =
     let n = length content in
     let found = compressed_only n (compressed n) (content ++ rest) (spells n few) in
     let size = length-append (compressed n ++ content) rest in
-    let front = length-append (compressed n) content in
-    let fits : length (compressed n) + n ≤ length (compressed n ++ content ++ rest) = omega (arith, size, front) in
+    let prefix = length-append (compressed n) content in
+    let fits : length (compressed n) + n ≤ length (compressed n ++ content ++ rest) = omega (arith, size, prefix) in
     rw (append_assoc (compressed n) content rest, found) (rw (sym (append_assoc (compressed n) content rest), le-leb _ _ fits) refl)
 
 part : (content rest : List ℕ) → take (length content) (drop (length (compressed (length content))) (blob content ++ rest)) ≡ content
@@ -55,7 +55,7 @@ part content rest =
 pub blob_back : (content rest : List ℕ) → length content < 2 ^ 14 → item_of (blob content ++ rest) ≡ Some content
 unfolding item_of
 blob_back content rest few =
-    ap (option_map (λ (front : Compressed). take front.number (drop front.width (blob content ++ rest)))) (whole content rest few) ∙ ap (λ (x : List ℕ). Some x) (part content rest)
+    ap (option_map (λ (prefix : Compressed). take prefix.number (drop prefix.width (blob content ++ rest)))) (whole content rest few) ∙ ap (λ (x : List ℕ). Some x) (part content rest)
 
 -- ---- the signature of a method
 
@@ -100,7 +100,7 @@ pub signature_of_back : (is_static : Bool) (gives : Place) (args : List Place) �
 signature_of_back is_static gives args few values =
     method_read (signature_of is_static gives args) (not is_static) false (record { result = gives; args = args })
     (record {
-      front = signature_of is_static gives args;
+      prefix = signature_of is_static gives args;
       rest = [];
       holds = spells_method is_static gives args few values;
       parts = sym (append-nil (signature_of is_static gives args));
@@ -128,7 +128,7 @@ spells_locals ps few values = record {
 pub locals_back : (ps : List Place) → length ps ≤ MAX_VARIABLES → AreValues ps → local_signature (written.local_signature ps) ≡ Ok (locals.Known ps)
 locals_back ps few values =
     local_read (written.local_signature ps) ps
-    (record { front = written.local_signature ps; rest = []; holds = spells_locals ps few values; parts = sym (append-nil (written.local_signature ps)) })
+    (record { prefix = written.local_signature ps; rest = []; holds = spells_locals ps few values; parts = sym (append-nil (written.local_signature ps)) })
 
 -- ---- their sizes
 
@@ -161,8 +161,8 @@ signature_of_short is_static gives args few =
     let result = type_short gives in
     let types = types_short args in
     let all = length-append (compressed (length args) ++ type_bytes gives) (flat_map type_bytes args) in
-    let front = length-append (compressed (length args)) (type_bytes gives) in
-    omega (arith, count, result, types, all, front, few)
+    let prefix = length-append (compressed (length args)) (type_bytes gives) in
+    omega (arith, count, result, types, all, prefix, few)
 
 pub signature_short : (m : MethodPlan) → length m.args.items ≤ MAX_VARIABLES → length (signature m) < 2 ^ 14
 unfolding signature

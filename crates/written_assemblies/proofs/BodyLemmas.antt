@@ -77,9 +77,9 @@ body_room : (row : ℕ) (m : MethodPlan) → 12 + length m.code.items ≤ length
 unfolding body
 body_room row m =
     let header = length_header row m in
-    let front = length-append (numbers_bytes (body_header row m)) m.code.items in
+    let prefix = length-append (numbers_bytes (body_header row m)) m.code.items in
     let all = length-append (numbers_bytes (body_header row m) ++ m.code.items) (fill 4 (numbers_width (body_header row m) + length m.code.items)) in
-    omega (arith, header, front, all)
+    omega (arith, header, prefix, all)
 
 first_byte : (row : ℕ) (m : MethodPlan) → take 1 (body row m) ≡ 0x13 ∷ []
 unfolding body numbers_bytes
@@ -94,8 +94,8 @@ header_bytes row m =
 code_bytes : (row : ℕ) (m : MethodPlan) → drop 12 (take (12 + length m.code.items) (body row m)) ≡ m.code.items
 unfolding body
 code_bytes row m =
-    let front : length (numbers_bytes (body_header row m) ++ m.code.items) ≡ 12 + length m.code.items = length-append (numbers_bytes (body_header row m)) m.code.items ∙ ap (λ (n : ℕ). n + length m.code.items) (length_header row m) in
-    ap (drop 12) (take_at (numbers_bytes (body_header row m) ++ m.code.items) (fill 4 (numbers_width (body_header row m) + length m.code.items)) (12 + length m.code.items) front)
+    let prefix : length (numbers_bytes (body_header row m) ++ m.code.items) ≡ 12 + length m.code.items = length-append (numbers_bytes (body_header row m)) m.code.items ∙ ap (λ (n : ℕ). n + length m.code.items) (length_header row m) in
+    ap (drop 12) (take_at (numbers_bytes (body_header row m) ++ m.code.items) (fill 4 (numbers_width (body_header row m) + length m.code.items)) (12 + length m.code.items) prefix)
     ∙ drop_at (numbers_bytes (body_header row m)) m.code.items 12 (length_header row m)
 
 -- What stands at an address where the bytes of a body do.

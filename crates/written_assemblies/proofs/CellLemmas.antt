@@ -48,7 +48,7 @@ index_says false n size is within few = (refl, grind (arith, is, within))
 column_in : (l : Layout) (before : List Field) (f : Field) (after : List Field) → Stands (field_bytes l f) (fields_bytes l (before ++ f ∷ after)) (row_width l before)
 unfolding fields_bytes
 column_in l before f after = record {
-  front = fields_bytes l before;
+  prefix = fields_bytes l before;
   rest = fields_bytes l after;
   parts = flat_map-append (field_bytes l) before (f ∷ after);
   begins = length_fields l before;
@@ -61,8 +61,8 @@ pub cell_is : (l : Layout) (ms : List MethodPlan) (number row : ℕ) (before : L
     → Stands (fields_bytes l (before ++ f ∷ after)) (md_of l ms) (base (md_of l ms) number + (row - 1) * read_width (counts_of l.methods l.locals l.externs) (written.heap_sizes l) number)
     → Says (field_number l f) v → cell (md_of l ms) number row (length before) ≡ v
 unfolding cell cell_at column_width column_offset
-cell_is l ms number row before f after column v s fronts is here stands says =
-    let offset : row_width l before ≡ total_width (counts_of l.methods l.locals l.externs) (written.heap_sizes l) (take (length before) (columns_of number)) = widths_are l before _ fronts in
+cell_is l ms number row before f after column v s prefixes is here stands says =
+    let offset : row_width l before ≡ total_width (counts_of l.methods l.locals l.externs) (written.heap_sizes l) (take (length before) (columns_of number)) = widths_are l before _ prefixes in
     let wide : number_width (field_number l f) ≡ width (counts_of l.methods l.locals l.externs) (written.heap_sizes l) column = subst (λ (c : Option Column). HasWidth l f c) is (has_width l f) in
     let at = stands_within _ _ _ _ _ (column_in l before f after) stands in
     rw (counts_are l ms s, sizes_are l ms s, here, sym wide, sym offset) (number_read (field_number l f) v (md_of l ms) _ says at)

@@ -118,11 +118,11 @@ text_there : (source : Linked) (number row : ℕ) (before after : List Field) (i
     → map column_of before ≡ map Some (take (length before) (columns_of number)) → slice_index_or (columns_of number) (length before) columns.Two ≡ columns.Strings
     → IsRowThere source number row (before ++ fields.ExternName i part ∷ after)
     → string_at (md_for source) (cell (md_for source) number row (length before)) ≡ Some (part_of e part)
-text_there source number row before after i e part s is no_zero fronts here there =
+text_there source number row before after i e part s is no_zero prefixes here there =
     let l = layout_of source in
     let name = name_there source i e part is in
     let end = stands_reach _ _ _ name in
-    let at = cell_is l source.plan.methods.items number row before (fields.ExternName i part) after columns.Strings _ s fronts refl here there
+    let at = cell_is l source.plan.methods.items number row before (fields.ExternName i part) after columns.Strings _ s prefixes refl here there
     (index_says (is_wide_heap l.strings) _ (length l.strings.bytes) refl (omega (arith, end)) (few_strings source s)) in
     ap (string_at (md_for source)) at ∙ text_read source (part_of e part) _ s no_zero name
 
@@ -144,8 +144,8 @@ unfolding columns_of
 name_is source i e s is no_zero =
     text_there source 10 (i + 12) (fields.Coded MemberRefParent tables.TypeRef (extern_row types i) ∷ []) (fields.ExternSignature i ∷ []) i e parts.Name s is no_zero refl refl (member_there source i s is.0)
 
-abbrev assembly_front : List Field
-assembly_front =
+abbrev assembly_prefix : List Field
+assembly_prefix =
     fields.Plain (Two 0) ∷ fields.Plain (Two 0) ∷ fields.Plain (Two 0) ∷ fields.Plain (Two 0) ∷ fields.Plain (Four 0)
     ∷ fields.Blobs blobs.Empty ∷ []
 
@@ -153,7 +153,7 @@ assembly_is : (source : Linked) (i : ℕ) (e : Extern) → Sound source → IsEx
     → string_at (md_for source) (cell (md_for source) 35 (i + 2) 6) ≡ Some e.assembly.items
 unfolding columns_of
 assembly_is source i e s is no_zero =
-    text_there source 35 (i + 2) assembly_front (fields.Strings names.Empty ∷ fields.Blobs blobs.Empty ∷ []) i e parts.Assembly s is no_zero refl refl (assembly_there source i s is.0)
+    text_there source 35 (i + 2) assembly_prefix (fields.Strings names.Empty ∷ fields.Blobs blobs.Empty ∷ []) i e parts.Assembly s is no_zero refl refl (assembly_there source i s is.0)
 
 -- ---- the rows that they cite
 
@@ -320,9 +320,9 @@ unfolding columns_of
 own_cell source s =
     let l = layout_of source in
     let end = stands_reach _ _ _ (own_name_stands source) in
-    let front = fields.Plain (Four 0) ∷ fields.Plain (Two 0) ∷ fields.Plain (Two 0) ∷ fields.Plain (Two 0) ∷ fields.Plain (Two 0) ∷ fields.Plain (Four 0) ∷ fields.Blobs blobs.Empty ∷ [] in
-    cell_is l source.plan.methods.items 32 1 front fields.OwnName (fields.Strings names.Empty ∷ []) columns.Strings _ s refl refl refl
-    (table_row source tables.Assembly 0 (front ++ fields.OwnName ∷ fields.Strings names.Empty ∷ []) s (assembly_stands l source.plan.methods.items s.counts) (omega arith) refl)
+    let prefix = fields.Plain (Four 0) ∷ fields.Plain (Two 0) ∷ fields.Plain (Two 0) ∷ fields.Plain (Two 0) ∷ fields.Plain (Two 0) ∷ fields.Plain (Four 0) ∷ fields.Blobs blobs.Empty ∷ [] in
+    cell_is l source.plan.methods.items 32 1 prefix fields.OwnName (fields.Strings names.Empty ∷ []) columns.Strings _ s refl refl refl
+    (table_row source tables.Assembly 0 (prefix ++ fields.OwnName ∷ fields.Strings names.Empty ∷ []) s (assembly_stands l source.plan.methods.items s.counts) (omega arith) refl)
     (index_says (is_wide_heap l.strings) _ (length l.strings.bytes) refl (omega (arith, end)) (few_strings source s))
 
 pub own_name_is : (source : Linked) → Sound source → HasNoZero source.assembly → assembly_name (md_for source) ≡ Some source.assembly

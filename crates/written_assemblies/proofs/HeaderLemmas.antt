@@ -25,8 +25,8 @@ unfolding field
 fits wide size section at width within =
     let end : at + width ≤ 0x200 = leb-true (at + width) 0x200 within in
     let all = length-append (headers wide size) section in
-    let front = length_headers wide size in
-    let reach : at + width ≤ length (headers wide size ++ section) = omega (arith, end, all, front) in
+    let prefix = length_headers wide size in
+    let reach : at + width ≤ length (headers wide size ++ section) = omega (arith, end, all, prefix) in
     rw (le-leb _ _ reach) refl
 
 -- No test of them fails.

@@ -35,7 +35,7 @@ pushed_stands p (first ∷ items) zero item d within is =
     get_or_at p.offsets (length p.bytes) (starts (length p.bytes + length first) items) 0 (length p.offsets + 0) (omega arith) in
     let at : slice_index (pushed_all p (first ∷ items)).offsets (length p.offsets + 0) ≡ length p.bytes = ap (λ (xs : List ℕ). slice_index xs (length p.offsets + 0)) offsets ∙ here in
     record {
-      front = p.bytes;
+      prefix = p.bytes;
       rest = flat_map (λ x. x) items;
       parts = pushed_bytes p (first ∷ items) ∙ ap (λ (x : List ℕ). p.bytes ++ (x ++ flat_map (λ y. y) items)) is;
       begins = sym at;

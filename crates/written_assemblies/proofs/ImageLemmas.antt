@@ -52,9 +52,9 @@ stands_bodies wide bodies md =
 
 pub stands_metadata : (wide : Bool) (bodies md : List ℕ) → Stands md (file_of wide bodies md) (0x200 + (72 + length bodies))
 stands_metadata wide bodies md =
-    let front : length (cli_bytes bodies md ++ bodies) ≡ 72 + length bodies =
+    let prefix : length (cli_bytes bodies md ++ bodies) ≡ 72 + length bodies =
     length-append (cli_bytes bodies md) bodies ∙ ap (λ (k : ℕ). k + length bodies) (length_cli bodies md) in
-    stands_at _ _ _ _ (ap (λ (k : ℕ). 0x200 + k) front)
+    stands_at _ _ _ _ (ap (λ (k : ℕ). 0x200 + k) prefix)
     (stands_second (cli_bytes bodies md ++ bodies) md _ _ (stands_filled wide bodies md))
 
 -- The section ends with the file, and has room for the CLI header, the bodies and the metadata.
@@ -64,11 +64,11 @@ section_end wide bodies md = stands_reach _ _ _ (stands_section wide bodies md)
 pub section_room : (bodies md : List ℕ) → 72 + length bodies + length md ≤ length (section bodies md)
 unfolding section padded
 section_room bodies md =
-    let front = length-append (cli_bytes bodies md ++ bodies) md in
+    let prefix = length-append (cli_bytes bodies md ++ bodies) md in
     let first = length-append (cli_bytes bodies md) bodies in
     let cli = length_cli bodies md in
     let all = length-append (cli_bytes bodies md ++ bodies ++ md) (fill file_alignment (length (cli_bytes bodies md ++ bodies ++ md))) in
-    omega (arith, front, first, cli, all)
+    omega (arith, prefix, first, cli, all)
 
 -- ---- what the CLI header says
 

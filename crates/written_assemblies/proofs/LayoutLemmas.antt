@@ -249,26 +249,26 @@ pub signature_stands : (ms : List MethodPlan) (externs : List Extern) (i : ℕ) 
     → Stands (signature_blob m) (blob_heap ms externs).bytes (slice_index (blob_heap ms externs).offsets (signature_index i))
 unfolding blob_heap
 signature_stands ms externs i m within is =
-    let front = length-append (map blob_item cited_blobs) (flat_map method_blob_items ms) in
+    let prefix = length-append (map blob_item cited_blobs) (flat_map method_blob_items ms) in
     let size = length-append (map blob_item cited_blobs ++ flat_map method_blob_items ms) (map extern_blob externs) in
     let twice = twice_length ms in
     let here : get_or (blob_items ms externs) (10 + 2 * i) [] ≡ signature_blob m =
-    get_or_append_left (map blob_item cited_blobs ++ flat_map method_blob_items ms) (map extern_blob externs) [] (10 + 2 * i) (omega (arith, front, twice, within))
+    get_or_append_left (map blob_item cited_blobs ++ flat_map method_blob_items ms) (map extern_blob externs) [] (10 + 2 * i) (omega (arith, prefix, twice, within))
     ∙ get_or-append-add (map blob_item cited_blobs) (flat_map method_blob_items ms) (2 * i) [] ∙ signature_in ms i m within is in
-    item_in_filled (blob_items ms externs) (10 + 2 * i) (signature_blob m) [] (omega (arith, front, size, twice, within)) here
+    item_in_filled (blob_items ms externs) (10 + 2 * i) (signature_blob m) [] (omega (arith, prefix, size, twice, within)) here
 
 pub locals_stand : (ms : List MethodPlan) (externs : List Extern) (i : ℕ) (m : MethodPlan) → i < length ms → get_or ms i m ≡ m
     → Stands (local_blob m.locals.items) (blob_heap ms externs).bytes (slice_index (blob_heap ms externs).offsets (locals_index i))
 unfolding blob_heap
 locals_stand ms externs i m within is =
-    let front = length-append (map blob_item cited_blobs) (flat_map method_blob_items ms) in
+    let prefix = length-append (map blob_item cited_blobs) (flat_map method_blob_items ms) in
     let size = length-append (map blob_item cited_blobs ++ flat_map method_blob_items ms) (map extern_blob externs) in
     let twice = twice_length ms in
     let same : 10 + (2 * i + 1) ≡ 10 + 2 * i + 1 = omega arith in
     let here : get_or (blob_items ms externs) (10 + (2 * i + 1)) [] ≡ local_blob m.locals.items =
-    get_or_append_left (map blob_item cited_blobs ++ flat_map method_blob_items ms) (map extern_blob externs) [] (10 + (2 * i + 1)) (omega (arith, front, twice, within))
+    get_or_append_left (map blob_item cited_blobs ++ flat_map method_blob_items ms) (map extern_blob externs) [] (10 + (2 * i + 1)) (omega (arith, prefix, twice, within))
     ∙ get_or-append-add (map blob_item cited_blobs) (flat_map method_blob_items ms) (2 * i + 1) [] ∙ locals_in ms i m within is in
-    item_in_filled (blob_items ms externs) (10 + 2 * i + 1) (local_blob m.locals.items) [] (omega (arith, front, size, twice, within)) (ap (λ (k : ℕ). get_or (blob_items ms externs) k []) (sym same) ∙ here)
+    item_in_filled (blob_items ms externs) (10 + 2 * i + 1) (local_blob m.locals.items) [] (omega (arith, prefix, size, twice, within)) (ap (λ (k : ℕ). get_or (blob_items ms externs) k []) (sym same) ∙ here)
 
 -- ---- the blobs of externs
 
@@ -276,13 +276,13 @@ pub extern_blob_stands : (ms : List MethodPlan) (externs : List Extern) (i : ℕ
     → Stands (extern_blob e) (blob_heap ms externs).bytes (slice_index (blob_heap ms externs).offsets (extern_signature_index (length ms) i))
 unfolding blob_heap
 extern_blob_stands ms externs i e within is =
-    let front = length-append (map blob_item cited_blobs) (flat_map method_blob_items ms) in
+    let prefix = length-append (map blob_item cited_blobs) (flat_map method_blob_items ms) in
     let size = length-append (map blob_item cited_blobs ++ flat_map method_blob_items ms) (map extern_blob externs) in
     let twice = twice_length ms in
     let own = length-map externs extern_blob in
-    let at : length (map blob_item cited_blobs ++ flat_map method_blob_items ms) + i ≡ extern_signature_index (length ms) i = omega (arith, front, twice) in
+    let at : length (map blob_item cited_blobs ++ flat_map method_blob_items ms) + i ≡ extern_signature_index (length ms) i = omega (arith, prefix, twice) in
     let here : get_or (blob_items ms externs) (extern_signature_index (length ms) i) [] ≡ extern_blob e =
     ap (λ (k : ℕ). get_or (blob_items ms externs) k []) (sym at)
     ∙ get_or-append-add (map blob_item cited_blobs ++ flat_map method_blob_items ms) (map extern_blob externs) i []
     ∙ get_or-map extern_blob externs i e [] within ∙ ap extern_blob is in
-    item_in_filled (blob_items ms externs) (extern_signature_index (length ms) i) (extern_blob e) [] (omega (arith, front, size, twice, own, within)) here
+    item_in_filled (blob_items ms externs) (extern_signature_index (length ms) i) (extern_blob e) [] (omega (arith, prefix, size, twice, own, within)) here

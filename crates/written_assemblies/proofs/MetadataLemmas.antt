@@ -55,9 +55,9 @@ stands_counts l ms = stands_at _ _ _ _ (ap (λ (n : ℕ). 108 + n) (length_strea
 
 pub stands_rows : (l : Layout) (ms : List MethodPlan) → Stands (flat_map (table_bytes l ms) all_tables) (md_of l ms) (132 + length (flat_map (count_bytes l) all_tables))
 stands_rows l ms =
-    let front = length-append (numbers_bytes (stream_numbers l)) (flat_map (count_bytes l) all_tables) in
+    let prefix = length-append (numbers_bytes (stream_numbers l)) (flat_map (count_bytes l) all_tables) in
     let numbers = length_stream_numbers l in
-    let same : 108 + length (numbers_bytes (stream_numbers l) ++ flat_map (count_bytes l) all_tables) ≡ 132 + length (flat_map (count_bytes l) all_tables) = omega (arith, front, numbers) in
+    let same : 108 + length (numbers_bytes (stream_numbers l) ++ flat_map (count_bytes l) all_tables) ≡ 132 + length (flat_map (count_bytes l) all_tables) = omega (arith, prefix, numbers) in
     stands_at _ _ _ _ same (stands_second _ _ _ _ (stands_filled l ms))
 
 -- ---- what its numbers say
@@ -149,8 +149,8 @@ base_is l ms number s = rw (rows_at_is l ms s, counts_are l ms s, sizes_are l ms
 
 -- ---- its tests
 
-front_fields : (end at : ℕ) → at + 16 ≤ end → first_of (fields end (λ at. Short at) at (4 ∷ 1 ∷ 1 ∷ 1 ∷ 1 ∷ 8 ∷ [])) ≡ None
-front_fields end at room =
+prefix_fields : (end at : ℕ) → at + 16 ≤ end → first_of (fields end (λ at. Short at) at (4 ∷ 1 ∷ 1 ∷ 1 ∷ 1 ∷ 8 ∷ [])) ≡ None
+prefix_fields end at room =
     fields-fits end _ at 4 _ (omega (arith, room))
     ∙ fields-fits end _ (at + 4) 1 _ (omega (arith, room))
     ∙ fields-fits end _ (at + 4 + 1) 1 _ (omega (arith, room))
@@ -167,10 +167,10 @@ room : (l : Layout) (ms : List MethodPlan) → 24 + length (flat_map (count_byte
 unfolding tables_stream padded
 room l ms =
     let numbers = length_stream_numbers l in
-    let front = length-append (numbers_bytes (stream_numbers l)) (flat_map (count_bytes l) all_tables) in
+    let prefix = length-append (numbers_bytes (stream_numbers l)) (flat_map (count_bytes l) all_tables) in
     let all = length-append (numbers_bytes (stream_numbers l) ++ flat_map (count_bytes l) all_tables) (flat_map (table_bytes l ms) all_tables) in
     let whole = length-append (numbers_bytes (stream_numbers l) ++ flat_map (count_bytes l) all_tables ++ flat_map (table_bytes l ms) all_tables) (fill 4 (length (numbers_bytes (stream_numbers l) ++ flat_map (count_bytes l) all_tables ++ flat_map (table_bytes l ms) all_tables))) in
-    omega (arith, numbers, front, all, whole)
+    omega (arith, numbers, prefix, all, whole)
 
 tables_pass : (l : Layout) (ms : List MethodPlan) → IsSound l ms → first_of (tables_tests (md_of l ms)) ≡ None
 unfolding tables_tests
@@ -183,7 +183,7 @@ tables_pass l ms s =
     (first_of-append_none _ _ (
     first_of-append_none _ _ (
     first_of-append_none _ _ (
-    first_of-append_none _ _ (front_fields end 108 (omega (arith, has)))
+    first_of-append_none _ _ (prefix_fields end 108 (omega (arith, has)))
     ∙ bits_pass (l.methods == 0) (l.locals == 0) 116)
     ∙ one_field end 124 8 (omega (arith, has)))
     ∙ run-fits (present_below bits 64) end (λ at. Short at) 132 4 (omega (arith, has, counts)))

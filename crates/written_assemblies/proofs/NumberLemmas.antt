@@ -13,7 +13,7 @@ use Rattle.written_assemblies.proofs.PartLemmas.{stands_within, stands_u16, stan
 number_in : (before : List Number) (n : Number) (after : List Number) → Stands (number_bytes n) (numbers_bytes (before ++ n ∷ after)) (numbers_width before)
 unfolding numbers_bytes
 number_in before n after = record {
-  front = numbers_bytes before;
+  prefix = numbers_bytes before;
   rest = numbers_bytes after;
   parts = flat_map-append number_bytes before (n ∷ after);
   begins = length_numbers before;

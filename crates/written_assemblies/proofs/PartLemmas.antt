@@ -8,56 +8,56 @@ use Rattle.written_assemblies.specs.Parts.{Stands}
 
 -- The bytes stand in themselves.
 pub stands_whole : (bytes : List ℕ) → Stands bytes bytes 0
-stands_whole bytes = record { front = []; rest = []; parts = sym (append-nil bytes); begins = refl }
+stands_whole bytes = record { prefix = []; rest = []; parts = sym (append-nil bytes); begins = refl }
 
--- What follows a front stands after it.
-pub stands_behind : (front part : List ℕ) → Stands part (front ++ part) (length front)
-stands_behind front part = record { front = front; rest = []; parts = ap (λ (xs : List ℕ). front ++ xs) (sym (append-nil part)); begins = refl }
+-- What follows a prefix stands after it.
+pub stands_behind : (prefix part : List ℕ) → Stands part (prefix ++ part) (length prefix)
+stands_behind prefix part = record { prefix = prefix; rest = []; parts = ap (λ (xs : List ℕ). prefix ++ xs) (sym (append-nil part)); begins = refl }
 
 -- Of two parts, the first and the second.
 pub stands_first : (a b bytes : List ℕ) (at : ℕ) → Stands (a ++ b) bytes at → Stands a bytes at
 stands_first a b bytes at s = record {
-  front = s.front;
+  prefix = s.prefix;
   rest = b ++ s.rest;
-  parts = s.parts ∙ ap (λ (xs : List ℕ). s.front ++ xs) (append_assoc a b s.rest);
+  parts = s.parts ∙ ap (λ (xs : List ℕ). s.prefix ++ xs) (append_assoc a b s.rest);
   begins = s.begins;
 }
 
 pub stands_second : (a b bytes : List ℕ) (at : ℕ) → Stands (a ++ b) bytes at → Stands b bytes (at + length a)
 stands_second a b bytes at s = record {
-  front = s.front ++ a;
+  prefix = s.prefix ++ a;
   rest = s.rest;
-  parts = s.parts ∙ ap (λ (xs : List ℕ). s.front ++ xs) (append_assoc a b s.rest) ∙ sym (append_assoc s.front a (b ++ s.rest));
-  begins = length-append s.front a ∙ ap (λ (k : ℕ). k + length a) s.begins;
+  parts = s.parts ∙ ap (λ (xs : List ℕ). s.prefix ++ xs) (append_assoc a b s.rest) ∙ sym (append_assoc s.prefix a (b ++ s.rest));
+  begins = length-append s.prefix a ∙ ap (λ (k : ℕ). k + length a) s.begins;
 }
 
 -- A part of a part.
 pub stands_within : (a b c : List ℕ) (i at : ℕ) → Stands a b i → Stands b c at → Stands a c (at + i)
 stands_within a b c i at s t = record {
-  front = t.front ++ s.front;
+  prefix = t.prefix ++ s.prefix;
   rest = s.rest ++ t.rest;
   parts =
-      t.parts ∙ ap (λ (xs : List ℕ). t.front ++ (xs ++ t.rest)) s.parts
-      ∙ ap (λ (xs : List ℕ). t.front ++ xs) (append_assoc s.front (a ++ s.rest) t.rest ∙ ap (λ (xs : List ℕ). s.front ++ xs) (append_assoc a s.rest t.rest))
-      ∙ sym (append_assoc t.front s.front (a ++ (s.rest ++ t.rest)));
-  begins = length-append t.front s.front ∙ ap (λ (k : ℕ). k + length s.front) t.begins ∙ ap (λ (k : ℕ). at + k) s.begins;
+      t.parts ∙ ap (λ (xs : List ℕ). t.prefix ++ (xs ++ t.rest)) s.parts
+      ∙ ap (λ (xs : List ℕ). t.prefix ++ xs) (append_assoc s.prefix (a ++ s.rest) t.rest ∙ ap (λ (xs : List ℕ). s.prefix ++ xs) (append_assoc a s.rest t.rest))
+      ∙ sym (append_assoc t.prefix s.prefix (a ++ (s.rest ++ t.rest)));
+  begins = length-append t.prefix s.prefix ∙ ap (λ (k : ℕ). k + length s.prefix) t.begins ∙ ap (λ (k : ℕ). at + k) s.begins;
 }
 
 -- The same part at an offset that is equal.
 pub stands_at : (a b : List ℕ) (i j : ℕ) → i ≡ j → Stands a b i → Stands a b j
-stands_at a b i j same s = record { front = s.front; rest = s.rest; parts = s.parts; begins = s.begins ∙ same }
+stands_at a b i j same s = record { prefix = s.prefix; rest = s.rest; parts = s.parts; begins = s.begins ∙ same }
 
 -- A part ends within the bytes.
 pub stands_reach : (a b : List ℕ) (at : ℕ) → Stands a b at → at + length a ≤ length b
 stands_reach a b at s =
-    let all : length b ≡ length s.front + (length a + length s.rest) =
-    ap length s.parts ∙ length-append s.front (a ++ s.rest) ∙ ap (λ (k : ℕ). length s.front + k) (length-append a s.rest) in
+    let all : length b ≡ length s.prefix + (length a + length s.rest) =
+    ap length s.parts ∙ length-append s.prefix (a ++ s.rest) ∙ ap (λ (k : ℕ). length s.prefix + k) (length-append a s.rest) in
     let begins = s.begins in
     omega (arith, all, begins)
 
 -- What is left from the offset of a part on.
 pub stands_drop : (a b : List ℕ) (at : ℕ) (s : Stands a b at) → drop at b ≡ a ++ s.rest
-stands_drop a b at s = ap (drop at) s.parts ∙ drop_at s.front (a ++ s.rest) at s.begins
+stands_drop a b at s = ap (drop at) s.parts ∙ drop_at s.prefix (a ++ s.rest) at s.begins
 
 -- As many bytes as the part has, from its offset on.
 pub stands_take : (a b : List ℕ) (at : ℕ) → Stands a b at → take (length a) (drop at b) ≡ a

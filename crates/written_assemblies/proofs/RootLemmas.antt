@@ -12,7 +12,7 @@ use Rattle.metadata_tables.specs.Tests.{fields}
 use Rattle.metadata_tables.specs.Layout.{start_of, end_of, tables_at, tables_end}
 use Rattle.metadata_tables.specs.Root.{version_width, stream_count, headers_at, root_tests, name_of, name_width, stream_of, header_tests, headers_tests, stream_among, stream, presence_of, presence_tests, streams_tests, bytes_of, heap}
 use Rattle.asm_writer.specs.declared.layout.Layout.{Layout}
-use Rattle.asm_writer.specs.Metadata.{user_strings, guids, padded_text, root_front, root, joined, streams}
+use Rattle.asm_writer.specs.Metadata.{user_strings, guids, padded_text, root_prefix, root, joined, streams}
 use Rattle.asm_writer.specs.Names as names
 use Rattle.asm_writer.specs.Numbers.{numbers_bytes}
 use Rattle.asm_writer.specs.Padding.{padded, round_up}
@@ -25,7 +25,7 @@ abbrev pub laid : List ℕ → Layout → List ℕ
 laid tables l = root 108 (streams tables l) ++ (joined 108 (streams tables l)).bytes
 
 pub length_root : (tables : List ℕ) (l : Layout) → length (root 108 (streams tables l)) ≡ 108
-unfolding root root_front joined numbers_bytes padded_text padded round_up names.zero_ended
+unfolding root root_prefix joined numbers_bytes padded_text padded round_up names.zero_ended
 length_root tables l = refl
 
 length_bytes : (tables : List ℕ) (l : Layout) → length (joined 108 (streams tables l)).bytes ≡ length tables + length l.strings.bytes + 20 + 16 + length l.blobs.bytes
@@ -68,38 +68,38 @@ pub record IsHeader (md : List ℕ) (header at size : ℕ) : Type 0 where
   pub has : u32_at md (header + 4) ≡ size
 
 tables_header : (tables : List ℕ) (l : Layout) → length (laid tables l) < 2 ^ 32 → IsHeader (laid tables l) 32 108 (length tables)
-unfolding u32_at root root_front joined numbers_bytes padded_text padded round_up names.zero_ended
+unfolding u32_at root root_prefix joined numbers_bytes padded_text padded round_up names.zero_ended
 tables_header tables l few =
     let end = stands_reach _ _ _ (stands_tables tables l) in
     record { begins = refl; has = number_here tables l (length tables) (drop 40 (laid tables l)) few (omega (arith, end)) }
 
 strings_header : (tables : List ℕ) (l : Layout) → length (laid tables l) < 2 ^ 32 → IsHeader (laid tables l) 44 (108 + length tables) (length l.strings.bytes)
-unfolding u32_at root root_front joined numbers_bytes padded_text padded round_up names.zero_ended
+unfolding u32_at root root_prefix joined numbers_bytes padded_text padded round_up names.zero_ended
 strings_header tables l few =
     let end = stands_reach _ _ _ (stands_strings tables l) in
     record { begins = number_here tables l (108 + length tables) (drop 48 (laid tables l)) few (omega (arith, end)); has = number_here tables l (length l.strings.bytes) (drop 52 (laid tables l)) few (omega (arith, end)) }
 
 user_strings_header : (tables : List ℕ) (l : Layout) → length (laid tables l) < 2 ^ 32 → IsHeader (laid tables l) 64 (108 + length (tables ++ l.strings.bytes)) (length user_strings)
-unfolding u32_at root root_front joined numbers_bytes padded_text padded round_up names.zero_ended
+unfolding u32_at root root_prefix joined numbers_bytes padded_text padded round_up names.zero_ended
 user_strings_header tables l few =
     let end = stands_reach _ _ _ (stands_user_strings tables l) in
     record { begins = number_here tables l (108 + length (tables ++ l.strings.bytes)) (drop 68 (laid tables l)) few (omega (arith, end)); has = refl }
 
 guids_header : (tables : List ℕ) (l : Layout) → length (laid tables l) < 2 ^ 32 → IsHeader (laid tables l) 76 (108 + length (tables ++ l.strings.bytes ++ user_strings)) (length guids)
-unfolding u32_at root root_front joined numbers_bytes padded_text padded round_up names.zero_ended
+unfolding u32_at root root_prefix joined numbers_bytes padded_text padded round_up names.zero_ended
 guids_header tables l few =
     let end = stands_reach _ _ _ (stands_guids tables l) in
     record { begins = number_here tables l (108 + length (tables ++ l.strings.bytes ++ user_strings)) (drop 80 (laid tables l)) few (omega (arith, end)); has = refl }
 
 blobs_header : (tables : List ℕ) (l : Layout) → length (laid tables l) < 2 ^ 32 → IsHeader (laid tables l) 92 (108 + length (tables ++ l.strings.bytes ++ user_strings ++ guids)) (length l.blobs.bytes)
-unfolding u32_at root root_front joined numbers_bytes padded_text padded round_up names.zero_ended
+unfolding u32_at root root_prefix joined numbers_bytes padded_text padded round_up names.zero_ended
 blobs_header tables l few =
     let end = stands_reach _ _ _ (stands_blobs tables l) in
     record { begins = number_here tables l (108 + length (tables ++ l.strings.bytes ++ user_strings ++ guids)) (drop 96 (laid tables l)) few (omega (arith, end)); has = number_here tables l (length l.blobs.bytes) (drop 100 (laid tables l)) few (omega (arith, end)) }
 
 -- The names of the streams, as far as they are padded, and where the header after each stands.
 tables_name : (tables : List ℕ) (l : Layout) → name_of (laid tables l) 32 ≡ Some (codes "#~")
-unfolding name_of root root_front joined numbers_bytes padded_text padded round_up names.zero_ended
+unfolding name_of root root_prefix joined numbers_bytes padded_text padded round_up names.zero_ended
 tables_name tables l = text_back (codes "#~") (drop 43 (laid tables l)) (refl, (refl, tt))
 
 tables_width : (tables : List ℕ) (l : Layout) → name_width (laid tables l) 32 ≡ 4
@@ -107,7 +107,7 @@ unfolding name_width
 tables_width tables l = rw (tables_name tables l) refl
 
 strings_name : (tables : List ℕ) (l : Layout) → name_of (laid tables l) 44 ≡ Some (codes "#Strings")
-unfolding name_of root root_front joined numbers_bytes padded_text padded round_up names.zero_ended
+unfolding name_of root root_prefix joined numbers_bytes padded_text padded round_up names.zero_ended
 strings_name tables l = text_back (codes "#Strings") (drop 61 (laid tables l)) (refl, (refl, (refl, (refl, (refl, (refl, (refl, (refl, tt))))))))
 
 strings_width : (tables : List ℕ) (l : Layout) → name_width (laid tables l) 44 ≡ 12
@@ -115,7 +115,7 @@ unfolding name_width
 strings_width tables l = rw (strings_name tables l) refl
 
 user_strings_name : (tables : List ℕ) (l : Layout) → name_of (laid tables l) 64 ≡ Some (codes "#US")
-unfolding name_of root root_front joined numbers_bytes padded_text padded round_up names.zero_ended
+unfolding name_of root root_prefix joined numbers_bytes padded_text padded round_up names.zero_ended
 user_strings_name tables l = text_back (codes "#US") (drop 76 (laid tables l)) (refl, (refl, (refl, tt)))
 
 user_strings_width : (tables : List ℕ) (l : Layout) → name_width (laid tables l) 64 ≡ 4
@@ -123,7 +123,7 @@ unfolding name_width
 user_strings_width tables l = rw (user_strings_name tables l) refl
 
 guids_name : (tables : List ℕ) (l : Layout) → name_of (laid tables l) 76 ≡ Some (codes "#GUID")
-unfolding name_of root root_front joined numbers_bytes padded_text padded round_up names.zero_ended
+unfolding name_of root root_prefix joined numbers_bytes padded_text padded round_up names.zero_ended
 guids_name tables l = text_back (codes "#GUID") (drop 90 (laid tables l)) (refl, (refl, (refl, (refl, (refl, tt)))))
 
 guids_width : (tables : List ℕ) (l : Layout) → name_width (laid tables l) 76 ≡ 8
@@ -131,7 +131,7 @@ unfolding name_width
 guids_width tables l = rw (guids_name tables l) refl
 
 blobs_name : (tables : List ℕ) (l : Layout) → name_of (laid tables l) 92 ≡ Some (codes "#Blob")
-unfolding name_of root root_front joined numbers_bytes padded_text padded round_up names.zero_ended
+unfolding name_of root root_prefix joined numbers_bytes padded_text padded round_up names.zero_ended
 blobs_name tables l = text_back (codes "#Blob") (drop 106 (laid tables l)) (refl, (refl, (refl, (refl, (refl, tt)))))
 
 blobs_width : (tables : List ℕ) (l : Layout) → name_width (laid tables l) 92 ≡ 8
@@ -140,7 +140,7 @@ blobs_width tables l = rw (blobs_name tables l) refl
 
 -- The streams by their names.
 count_is : (tables : List ℕ) (l : Layout) → (stream_count (laid tables l) ≡ 5) × (headers_at (laid tables l) ≡ 32)
-unfolding stream_count headers_at version_width u16_at u32_at root root_front joined numbers_bytes padded_text padded round_up names.zero_ended
+unfolding stream_count headers_at version_width u16_at u32_at root root_prefix joined numbers_bytes padded_text padded round_up names.zero_ended
 count_is tables l = (refl, refl)
 
 tables_named : (tables : List ℕ) (l : Layout) → stream (laid tables l) (codes "#~") ≡ Some (stream_of (laid tables l) 32)
@@ -195,7 +195,7 @@ stream_ends md part header at is stands =
     rw (is.begins, is.has, le-leb (at + length part) (length md) end) refl
 
 root_pass : (tables : List ℕ) (l : Layout) → first_of (root_tests (laid tables l)) ≡ None
-unfolding root_tests fields version_width u32_at root root_front joined numbers_bytes padded_text padded round_up names.zero_ended
+unfolding root_tests fields version_width u32_at root root_prefix joined numbers_bytes padded_text padded round_up names.zero_ended
 root_pass tables l =
     let t = within_root tables l in
     (none_failed (root_tests (laid tables l))).1

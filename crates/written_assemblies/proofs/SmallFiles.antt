@@ -155,14 +155,14 @@ types_few (place ∷ all) =
 blob_few : (bytes : List ℕ) → length (blob bytes) ≤ 2 + length bytes
 unfolding blob
 blob_few bytes =
-    let front = compressed_few (length bytes) in
+    let prefix = compressed_few (length bytes) in
     let both = length-append (compressed (length bytes)) bytes in
     omega arith
 
 signature_few : (m : MethodPlan) → length (signature m) ≤ 5 + 2 * length m.args.items
 unfolding signature
 signature_few m =
-    let front = compressed_few (length m.args.items) in
+    let prefix = compressed_few (length m.args.items) in
     let result = type_few m.result in
     let args = types_few m.args.items in
     let first = length-append (compressed (length m.args.items)) (type_bytes m.result) in
@@ -172,7 +172,7 @@ signature_few m =
 local_signature_few : (locals : List Place) → length (local_signature locals) ≤ 3 + 2 * length locals
 unfolding local_signature
 local_signature_few locals =
-    let front = compressed_few (length locals) in
+    let prefix = compressed_few (length locals) in
     let behind = types_few locals in
     let all = length-append (compressed (length locals)) (flat_map type_bytes locals) in
     omega arith
@@ -358,16 +358,16 @@ count_by false n = omega arith
 count_few : (l : Layout) (table : Table) → count_size l table ≤ 4
 count_few l table = count_by _ _
 
-front_few : (l : Layout) → numbers_width (stream_numbers l) ≡ 24
+prefix_few : (l : Layout) → numbers_width (stream_numbers l) ≡ 24
 unfolding numbers_width
-front_few l = refl
+prefix_few l = refl
 
 tables_few : (l : Layout) (ms : List MethodPlan) → l.externs ≡ 0 → tables_size l ms ≤ 6000 + 1300 * length ms
 unfolding tables_size
 tables_few l ms none =
     let counts = all_few (count_size l) 4 (count_few l) all_tables 13 refl in
     let rows = all_few (table_size l ms) (400 + 100 * length ms) (λ (table : Table). table_few l ms table none) all_tables 13 refl in
-    let front = front_few l in
+    let prefix = prefix_few l in
     let below = round_up_below 4 (numbers_width (stream_numbers l) + sum_by (count_size l) all_tables + sum_by (table_size l ms) all_tables) (omega arith) in
     omega arith
 
@@ -418,7 +418,7 @@ unfolding file_size linked_size section_size numbers_width
 file_few plan short small narrow =
     let metadata = metadata_few plan short small in
     let bodies = few_of body_size body_few plan.methods.items small in
-    let front : cli_header_size ≡ 72 = refl in
+    let prefix : cli_header_size ≡ 72 = refl in
     let is : section_size (alone plan) ≡ round_up file_alignment (cli_header_size + bodies_size plan.methods.items + metadata_size (alone plan)) = refl in
     let whole = round_up_below file_alignment (cli_header_size + bodies_size plan.methods.items + metadata_size (alone plan)) (omega arith) in
     let before : headers_size plan.wide ≡ 512 = ap headers_size narrow ∙ headers_few in

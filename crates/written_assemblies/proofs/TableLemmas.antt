@@ -63,10 +63,10 @@ size_is l ms table c =
 
 -- ---- the bytes before a table
 
--- The tables in front of one in the list of all.
+-- The tables before one in the list of all.
 table_in : (f : Table → List ℕ) (before : List Table) (table : Table) (after : List Table) → Stands (f table) (flat_map f (before ++ table ∷ after)) (length (flat_map f before))
 table_in f before table after = record {
-  front = flat_map f before;
+  prefix = flat_map f before;
   rest = flat_map f after;
   parts = flat_map-append f before (table ∷ after);
   begins = refl;

@@ -70,9 +70,9 @@ unfolding metadata_tests
 metadata_tests_pass source base fit readable =
     let rows : first_of (types_tests (linked_metadata source) base ++ methods_tests (linked_metadata source) base) ≡ None =
     ap (λ (md : List ℕ). first_of (types_tests md base ++ methods_tests md base)) (metadata_laid source) ∙ rows_pass source base (is_taken source fit readable) in
-    let front = tables_tests_pass source base fit in
+    let prefix = tables_tests_pass source base fit in
     ap first_of (append_assoc (tables_tests (linked_metadata source) base) (types_tests (linked_metadata source) base) (methods_tests (linked_metadata source) base))
-    ∙ first_of-append_none _ _ front ∙ rows
+    ∙ first_of-append_none _ _ prefix ∙ rows
 
 -- No test fails.
 pub whole_passes : (source : Linked) (bytes : List ℕ) → IsTrue (linked_fits source) → IsReadable source.plan → bytes ≡ linked_bytes source → FirstBroken bytes ≡ None

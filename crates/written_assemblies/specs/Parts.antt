@@ -3,7 +3,7 @@ use Rattle.std.specs.Prelude.{◌≡◌, ℕ, List, ◌++◌, length}
 
 -- The part stands in the bytes, from this offset on.
 pub record Stands (part bytes : List ℕ) (at : ℕ) : Type 0 where
-  pub front : List ℕ
+  pub prefix : List ℕ
   pub rest : List ℕ
-  pub parts : bytes ≡ front ++ (part ++ rest)
-  pub begins : length front ≡ at
+  pub parts : bytes ≡ prefix ++ (part ++ rest)
+  pub begins : length prefix ≡ at

@@ -55,16 +55,16 @@ first_of_code (i ∷ code) call rest = (i, refl)
 -- An instruction of the code, by its index.
 in_code : (is : List Instr) (first last : ℕ) → NoneCloses (take (last - first) (drop first is)) → (k : ℕ) (j : Instr) → first ≤ k → k < last → slice_get is k ≡ Some j → closes j.op ≡ false
 in_code is first last none k j above below there =
-    all_there (λ i. closes i.op ≡ false) (take (last - first) (drop first is)) (k - first) j none (in_front (last - first) (drop first is) (k - first) (omega (arith, above, below)) ∙ sym (from_drop is first (k - first)) ∙ ap (slice_get is) sum ∙ there)
+    all_there (λ i. closes i.op ≡ false) (take (last - first) (drop first is)) (k - first) j none (in_prefix (last - first) (drop first is) (k - first) (omega (arith, above, below)) ∙ sym (from_drop is first (k - first)) ∙ ap (slice_get is) sum ∙ there)
   where
     sum : first + (k - first) ≡ k
     sum = omega (arith, above)
 
-    in_front : (n : ℕ) (xs : List Instr) (m : ℕ) → m < n → slice_get (take n xs) m ≡ slice_get xs m
-    in_front zero xs m l = absurd (omega (arith, l))
-    in_front (suc n) [] m l = refl
-    in_front (suc n) (x ∷ xs) zero l = refl
-    in_front (suc n) (x ∷ xs) (suc m) l = in_front n xs m (omega (arith, l))
+    in_prefix : (n : ℕ) (xs : List Instr) (m : ℕ) → m < n → slice_get (take n xs) m ≡ slice_get xs m
+    in_prefix zero xs m l = absurd (omega (arith, l))
+    in_prefix (suc n) [] m l = refl
+    in_prefix (suc n) (x ∷ xs) zero l = refl
+    in_prefix (suc n) (x ∷ xs) (suc m) l = in_prefix n xs m (omega (arith, l))
 
 -- A clause that keeps the limits with those before it.
 within_more : (clauses : List Clause) (kind : ClauseKind) (tree : Term) → ClausesWithinLimits clauses → passes_limit (map told_by_code clauses ++ (kind, Some tree) ∷ []) (Some tree) ≡ false

@@ -323,17 +323,17 @@ filled_so : (number : ℕ → ℤ) (a b : List Reference) (symbols : Symbols) (r
     → SlotsSo (IsBoundWell a b) references → slice_get references 0 ≡ Some (Some 0)
     → AreFilled symbols references binding → BindingSo number a b binding
 filled_so number a b symbols references binding so well zero_there are = record {
-  origin_is = front symbols binding.symbols zero_bound zero_bound are.symbols_are so.origin_is;
+  origin_is = prefix symbols binding.symbols zero_bound zero_bound are.symbols_are so.origin_is;
   fit = λ s x at. so.fit s x (filled_back symbols binding.symbols s x are.symbols_are at);
-  null = front references binding.references 0 0 are.references_are zero_there;
+  null = prefix references binding.references 0 0 are.references_are zero_there;
   well = λ q r at. well q r (filled_back references binding.references q r are.references_are at);
 }
   where
-    front : {X : Type 0} (slots : List (Option X)) (xs : List X) (x d : X) → all_filled slots ≡ Some xs
+    prefix : {X : Type 0} (slots : List (Option X)) (xs : List X) (x d : X) → all_filled slots ≡ Some xs
         → slice_get slots 0 ≡ Some (Some x) → get_or xs 0 d ≡ x
-    front [] xs x d is there = absurd cc
-    front (None ∷ slots) xs x d is there = absurd cc
-    front {X} (Some y ∷ slots) xs x d is there = by (all_filled slots) is
+    prefix [] xs x d is there = absurd cc
+    prefix (None ∷ slots) xs x d is there = absurd cc
+    prefix {X} (Some y ∷ slots) xs x d is there = by (all_filled slots) is
       where
         by : (found : Option (List X)) → option_map (λ zs. y ∷ zs) found ≡ Some xs → get_or xs 0 d ≡ x
         by None made = absurd cc

@@ -50,10 +50,10 @@ use Rattle.transfer_rules.specs.Laws.SameKinds.{read_kind, same_forms}
 
 -- ---- what a Requires reads
 
-front_at : {X : Type 0} (xs ys : List X) (i : ℕ) (x : X) → slice_get xs i ≡ Some x → slice_get (xs ++ ys) i ≡ Some x
-front_at [] ys i x is = absurd (none-some x is)
-front_at (y ∷ xs) ys zero x is = is
-front_at (y ∷ xs) ys (suc i) x is = front_at xs ys i x is
+prefix_at : {X : Type 0} (xs ys : List X) (i : ℕ) (x : X) → slice_get xs i ≡ Some x → slice_get (xs ++ ys) i ≡ Some x
+prefix_at [] ys i x is = absurd (none-some x is)
+prefix_at (y ∷ xs) ys zero x is = is
+prefix_at (y ∷ xs) ys (suc i) x is = prefix_at xs ys i x is
 
 readable : (unit : MethodUnit) (known : StateFacts) → HasKinds (entry_kinds unit) known
     → IsReadable at_entry unit.args unit.result known
@@ -67,8 +67,8 @@ readable unit known has = record {
         → slice_get (entry_kinds unit) n ≡ Some (forms.kind_in place)
     found n place is =
         let args = map forms.kind_in unit.args in
-        front_at (args ++ args) (map forms.kind_in unit.locals) n (forms.kind_in place)
-        (front_at args args n (forms.kind_in place)
+        prefix_at (args ++ args) (map forms.kind_in unit.locals) n (forms.kind_in place)
+        (prefix_at args args n (forms.kind_in place)
         (slice_get-map forms.kind_in unit.args n ∙ ap (option_map forms.kind_in) is))
 
     by : (n : ℕ) (kind : Kind) (o : Option Place) → slice_get unit.args n ≡ o → option_and_then kind_of o ≡ Some kind
@@ -199,7 +199,7 @@ entry_reads unit index args heap formed begins =
     let zeros = map zero_of unit.locals in
     record {
       heap_is = refl;
-      args_are = λ n v is. from_first n v (front_at (args ++ args) zeros n v (front_at args args n v is));
+      args_are = λ n v is. from_first n v (prefix_at (args ++ args) zeros n v (prefix_at args args n v is));
       result_is = tt;
       fit = begins.fit;
       result_fits = λ v is. absurd (none-some v is);

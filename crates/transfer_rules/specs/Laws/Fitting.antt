@@ -126,22 +126,22 @@ fit_both known (k ∷ ks) js (v ∷ vs) ws first second = (first.0, fit_both kno
 
 -- The last variable, and those before it.
 pub record FitLast (known : StateFacts) (ks : List Kind) (k : Kind) (vs : List Var) : Type 0 where
-  pub front : List Var
+  pub prefix : List Var
   pub top : Var
-  pub are : vs ≡ front ++ top ∷ []
-  pub fit : FitKinds known ks front
+  pub are : vs ≡ prefix ++ top ∷ []
+  pub fit : FitKinds known ks prefix
   pub last : FitsKind known k top
 
 pub fit_last : (known : StateFacts) (ks : List Kind) (k : Kind) (vs : List Var) → FitKinds known (ks ++ k ∷ []) vs
     → FitLast known ks k vs
 fit_last known [] k [] fits = elim fits [ ]
-fit_last known [] k (v ∷ []) fits = record { front = []; top = v; are = refl; fit = tt; last = fits.0 }
+fit_last known [] k (v ∷ []) fits = record { prefix = []; top = v; are = refl; fit = tt; last = fits.0 }
 fit_last known [] k (v ∷ w ∷ vs) fits = elim fits.1 [ ]
 fit_last known (j ∷ ks) k [] fits = elim fits [ ]
 fit_last known (j ∷ ks) k (v ∷ vs) fits =
     let rest = fit_last known ks k vs fits.1 in
     record {
-      front = v ∷ rest.front;
+      prefix = v ∷ rest.prefix;
       top = rest.top;
       are = ap (λ l. v ∷ l) rest.are;
       fit = (fits.0, rest.fit);
@@ -178,27 +178,27 @@ there_at P [] i v all is = absurd (none-some v is)
 there_at P (w ∷ vs) zero v all is = subst P (same_Some w v is) all.0
 there_at P (w ∷ vs) (suc i) v all is = there_at P vs i v all.1 is
 
-last_there : (P : Var → Type 0) (front : List Var) (top : Var) → AllByRecursion P (front ++ top ∷ []) → P top
+last_there : (P : Var → Type 0) (prefix : List Var) (top : Var) → AllByRecursion P (prefix ++ top ∷ []) → P top
 last_there P [] top all = all.0
-last_there P (v ∷ front) top all = last_there P front top all.1
+last_there P (v ∷ prefix) top all = last_there P prefix top all.1
 
-front_there : (P : Var → Type 0) (front : List Var) (top : Var) → AllByRecursion P (front ++ top ∷ [])
-    → AllByRecursion P front
-front_there P [] top all = tt
-front_there P (v ∷ front) top all = (all.0, front_there P front top all.1)
+prefix_there : (P : Var → Type 0) (prefix : List Var) (top : Var) → AllByRecursion P (prefix ++ top ∷ [])
+    → AllByRecursion P prefix
+prefix_there P [] top all = tt
+prefix_there P (v ∷ prefix) top all = (all.0, prefix_there P prefix top all.1)
 
-all_but_last : (front : List Var) (top : Var) → take (length (front ++ top ∷ []) - 1) (front ++ top ∷ []) ≡ front
+all_but_last : (prefix : List Var) (top : Var) → take (length (prefix ++ top ∷ []) - 1) (prefix ++ top ∷ []) ≡ prefix
 all_but_last [] top = refl
-all_but_last (v ∷ front) top =
-    let size : length ((v ∷ front) ++ top ∷ []) - 1 ≡ suc (length (front ++ top ∷ []) - 1) =
-    let many = one_longer front top in omega (arith, many) in
-    ap (λ n. take n ((v ∷ front) ++ top ∷ [])) size ∙ ap (λ l. v ∷ l) (all_but_last front top)
+all_but_last (v ∷ prefix) top =
+    let size : length ((v ∷ prefix) ++ top ∷ []) - 1 ≡ suc (length (prefix ++ top ∷ []) - 1) =
+    let many = one_longer prefix top in omega (arith, many) in
+    ap (λ n. take n ((v ∷ prefix) ++ top ∷ [])) size ∙ ap (λ l. v ∷ l) (all_but_last prefix top)
 
-top_of : (front : List Var) (top : Var) → slice_get (reverse (front ++ top ∷ [])) 0 ≡ Some top
-top_of front top = ap (λ l. slice_get l 0) (reverse-append front (top ∷ []))
+top_of : (prefix : List Var) (top : Var) → slice_get (reverse (prefix ++ top ∷ [])) 0 ≡ Some top
+top_of prefix top = ap (λ l. slice_get l 0) (reverse-append prefix (top ∷ []))
 
-under_top : (front : List Var) (top : Var) → slice_get (reverse (front ++ top ∷ [])) 1 ≡ slice_get (reverse front) 0
-under_top front top = ap (λ l. slice_get l 1) (reverse-append front (top ∷ []))
+under_top : (prefix : List Var) (top : Var) → slice_get (reverse (prefix ++ top ∷ [])) 1 ≡ slice_get (reverse prefix) 0
+under_top prefix top = ap (λ l. slice_get l 1) (reverse-append prefix (top ∷ []))
 
 -- ---- what is known
 
@@ -248,21 +248,21 @@ has_popped ks k known has =
     let ends = fit_last known ks k known.variables has.fit in
     let same = places_same known (popped known) refl in
     let all = subst (AllByRecursion (HasVar known)) ends.are has.form.variables in
-    let there = last_there (HasVar known) ends.front ends.top all in
-    let left : take (length known.variables - 1) known.variables ≡ ends.front =
-    ap (λ vs. take (length vs - 1) vs) ends.are ∙ all_but_last ends.front ends.top in
+    let there = last_there (HasVar known) ends.prefix ends.top all in
+    let left : take (length known.variables - 1) known.variables ≡ ends.prefix =
+    ap (λ vs. take (length vs - 1) vs) ends.are ∙ all_but_last ends.prefix ends.top in
     record {
       top = ends.top;
-      is = ap (λ vs. slice_get (reverse vs) 0) ends.are ∙ top_of ends.front ends.top;
-      below = ap (λ vs. slice_get (reverse vs) 1) ends.are ∙ under_top ends.front ends.top
+      is = ap (λ vs. slice_get (reverse vs) 0) ends.are ∙ top_of ends.prefix ends.top;
+      below = ap (λ vs. slice_get (reverse vs) 1) ends.are ∙ under_top ends.prefix ends.top
           ∙ ap (λ vs. slice_get (reverse vs) 0) (sym left);
       there = there;
       fits = kind_stays known (popped known) k ends.top same there ends.last;
       rest = record {
         form = popped_form known has.form;
         fit = subst (FitKinds (popped known) ks) (sym left)
-            (fit_stays known (popped known) ks ends.front same
-            (front_there (HasVar known) ends.front ends.top all) ends.fit);
+            (fit_stays known (popped known) ks ends.prefix same
+            (prefix_there (HasVar known) ends.prefix ends.top all) ends.fit);
       };
     }
 

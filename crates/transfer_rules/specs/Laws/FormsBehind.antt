@@ -71,15 +71,15 @@ merged_each known base [] [] vs is fits = fits
 merged_each known base [] (k ∷ ks) vs is fits = absurd (none-some [] is)
 merged_each known base (j ∷ to) [] vs is fits = absurd (none-some (j ∷ to) is)
 merged_each known base (j ∷ to) (k ∷ ks) vs is fits =
-    by (merged_kind j k) (merged to ks) refl refl is (λ front same rest. merged_each known base to ks front same rest)
+    by (merged_kind j k) (merged to ks) refl refl is (λ prefix same rest. merged_each known base to ks prefix same rest)
   where
     last : (l : List Kind) (x : Kind) → base ++ reverse (x ∷ l) ≡ (base ++ reverse l) ++ x ∷ []
     last l x = ap (λ m. base ++ m) (reverse-append (x ∷ []) l) ∙ sym (append_assoc base (reverse l) (x ∷ []))
 
     by : (one : Option Kind) (rest : Option (List Kind)) → merged_kind j k ≡ one → merged to ks ≡ rest
         → with_kind one rest ≡ Some (j ∷ to)
-        → ((front : List Var) → merged to ks ≡ Some to → FitKinds known (base ++ reverse ks) front
-        → FitKinds known (base ++ reverse to) front)
+        → ((prefix : List Var) → merged to ks ≡ Some to → FitKinds known (base ++ reverse ks) prefix
+        → FitKinds known (base ++ reverse to) prefix)
         → FitKinds known (base ++ reverse (j ∷ to)) vs
     by None rest first second same others = absurd (none-some (j ∷ to) same)
     by (Some one) None first second same others = absurd (none-some (j ∷ to) same)
@@ -89,8 +89,8 @@ merged_each known base (j ∷ to) (k ∷ ks) vs is fits =
         let ends = fit_last known (base ++ reverse ks) k vs (subst (λ l. FitKinds known l vs) (last ks k) fits) in
         subst (λ l. FitKinds known l vs) (sym (last to j))
         (subst (FitKinds known ((base ++ reverse to) ++ j ∷ [])) (sym ends.are)
-        (fit_pushed known (base ++ reverse to) ends.front j ends.top
-        (others ends.front (second ∙ ap Some rest_is) ends.fit)
+        (fit_pushed known (base ++ reverse to) ends.prefix j ends.top
+        (others ends.prefix (second ∙ ap Some rest_is) ends.fit)
         (merged_fits known j k ends.top (first ∙ ap Some one_is) ends.last)))
 
 -- What fits a stack fits one that absorbs it.
@@ -109,10 +109,10 @@ absorbed_fits unit at stack (Some known) absorbed has =
 
 -- ---- variables in place
 
-front_at : (xs ys : List Kind) (i : ℕ) (k : Kind) → slice_get xs i ≡ Some k → slice_get (xs ++ ys) i ≡ Some k
-front_at [] ys i k is = absurd (none-some k is)
-front_at (x ∷ xs) ys zero k is = is
-front_at (x ∷ xs) ys (suc i) k is = front_at xs ys i k is
+prefix_at : (xs ys : List Kind) (i : ℕ) (k : Kind) → slice_get xs i ≡ Some k → slice_get (xs ++ ys) i ≡ Some k
+prefix_at [] ys i k is = absurd (none-some k is)
+prefix_at (x ∷ xs) ys zero k is = is
+prefix_at (x ∷ xs) ys (suc i) k is = prefix_at xs ys i k is
 
 behind_at : (xs ys : List Kind) (i j : ℕ) → j ≡ length xs + i → slice_get (xs ++ ys) j ≡ slice_get ys i
 behind_at [] ys i j is = ap (slice_get ys) (omega (arith, is))
@@ -127,8 +127,8 @@ arg_kind : (unit : MethodUnit) (stack : List Kind) (n : ℕ) (place : Place) →
     → slice_get (kinds_over unit stack) (arg_place unit n) ≡ Some (kind_in place)
 arg_kind unit stack n place is =
     let args = map kind_in unit.args in
-    front_at (args ++ args ++ map kind_in unit.locals) (reverse stack) (arg_place unit n) (kind_in place)
-    (front_at (args ++ args) (map kind_in unit.locals) (arg_place unit n) (kind_in place)
+    prefix_at (args ++ args ++ map kind_in unit.locals) (reverse stack) (arg_place unit n) (kind_in place)
+    (prefix_at (args ++ args) (map kind_in unit.locals) (arg_place unit n) (kind_in place)
     (behind_at args args n (arg_place unit n) (omega (arith, length-map unit.args kind_in))
     ∙ type_kind unit.args n place is))
 
@@ -136,7 +136,7 @@ local_kind : (unit : MethodUnit) (stack : List Kind) (n : ℕ) (place : Place) �
     → slice_get (kinds_over unit stack) (local_place unit n) ≡ Some (kind_in place)
 local_kind unit stack n place is =
     let args = map kind_in unit.args in
-    front_at (args ++ args ++ map kind_in unit.locals) (reverse stack) (local_place unit n) (kind_in place)
+    prefix_at (args ++ args ++ map kind_in unit.locals) (reverse stack) (local_place unit n) (kind_in place)
     (behind_at (args ++ args) (map kind_in unit.locals) n (local_place unit n)
     (omega (arith, length-map unit.args kind_in, length-append args args))
     ∙ type_kind unit.locals n place is)
@@ -221,7 +221,7 @@ module _ (unit : MethodUnit) where
         form = has.form;
         fit = subst (λ ks. FitKinds known ks known.variables) (sym (over_more unit to stack))
             (subst (FitKinds known (kinds_over unit stack ++ to ∷ [])) (sym ends.are)
-            (fit_pushed known (kinds_over unit stack) ends.front to ends.top ends.fit (other ends.top ends.last)));
+            (fit_pushed known (kinds_over unit stack) ends.prefix to ends.top ends.fit (other ends.top ends.last)));
       }
 
   -- ---- operators

@@ -13,7 +13,7 @@ use Rattle.clause_trees.specs.VariableKinds.{IsOneOfKind, IsReadable}
 use Rattle.contract_calls.specs.Arguments.{first_of}
 use Rattle.contract_calls.specs.CallForms.{CanReturn}
 use Rattle.contract_calls.specs.CallStates.{at_return, result_at}
-use Rattle.contract_calls.proofs.AtCalls.{front_at, past}
+use Rattle.contract_calls.proofs.AtCalls.{prefix_at, past}
 use Rattle.frame_names.specs.declared.var.Var.{Var}
 use Rattle.state_facts.specs.StateFacts.{StateFacts, State}
 use Rattle.transfer_rules.specs.Forms.{FitKinds, FitsStack, HasKinds, kind_in, kinds_over}
@@ -117,11 +117,11 @@ module _ (unit : MethodUnit) (stack after : List Kind) (known : StateFacts)
       let args = fit_split known entry entry both.lower both.first in
       let (v, there, of) = read_at known unit.args args.lower n kind args.first is in
       let first : slice_get both.lower n ≡ Some v =
-      ap (λ (vs : List Var). slice_get vs n) args.are ∙ front_at args.lower args.upper n v there in
+      ap (λ (vs : List Var). slice_get vs n) args.are ∙ prefix_at args.lower args.upper n v there in
       let second : slice_get all.lower n ≡ Some v =
-      ap (λ (vs : List Var). slice_get vs n) both.are ∙ front_at both.lower both.upper n v first in
+      ap (λ (vs : List Var). slice_get vs n) both.are ∙ prefix_at both.lower both.upper n v first in
       subst (IsOneOfKind known kind)
-      (sym (ap (λ (vs : List Var). slice_get vs n) all.are ∙ front_at all.lower all.upper n v second)) of
+      (sym (ap (λ (vs : List Var). slice_get vs n) all.are ∙ prefix_at all.lower all.upper n v second)) of
 
   result_read : (i : ℕ) (kind : Kind) → result_at unit.result (first_of 1 (Some known)) ≡ Some i
       → kind_of unit.result ≡ Some kind → IsOneOfKind known kind (slice_get known.variables i)

@@ -28,8 +28,8 @@ use Rattle.transfer_rules.specs.Operands.{Rule, on_one, on_three, on_two}
 
 -- ---- lists
 
-pub front : {X : Type 0} (xs : List X) (x : X) → take (length (xs ++ x ∷ []) - 1) (xs ++ x ∷ []) ≡ xs
-front xs x =
+pub prefix : {X : Type 0} (xs : List X) (x : X) → take (length (xs ++ x ∷ []) - 1) (xs ++ x ∷ []) ≡ xs
+prefix xs x =
     let long : length (xs ++ x ∷ []) - 1 ≡ length xs = omega (arith, length-append xs (x ∷ [])) in
     ap (λ k. take k (xs ++ x ∷ [])) long ∙ take-append-le (length xs) xs (x ∷ []) (omega arith) ∙ take_all (length xs)
     xs (omega arith)
@@ -90,7 +90,7 @@ has_top known vs value heap number array form holds =
     let turned : reverse known.variables ≡ end.last ∷ reverse end.first =
     ap (λ us. reverse us) end.are ∙ last_first end.first end.last in
     let shorter : take (length known.variables - 1) known.variables ≡ end.first =
-    ap (λ (us : List Var). take (length us - 1) us) end.are ∙ front end.first end.last in
+    ap (λ (us : List Var). take (length us - 1) us) end.are ∙ prefix end.first end.last in
     record {
       var = end.last;
       is = ap (λ (us : List Var). slice_get us 0) turned;
@@ -100,7 +100,7 @@ has_top known vs value heap number array form holds =
       below = λ n. ap (λ (us : List Var). slice_get us (suc n)) turned
           ∙ ap (λ (us : List Var). slice_get (reverse us) n) (sym shorter);
       form = popped_form known form;
-      rest = subst (λ (xs : List Value). HoldsBy (popped known) xs heap number array) (front vs value)
+      rest = subst (λ (xs : List Value). HoldsBy (popped known) xs heap number array) (prefix vs value)
           (pop_keeps (Some known) (vs ++ value ∷ []) heap number array holds);
     }
 
@@ -285,10 +285,10 @@ place_below [] n x at = absurd (none-some x at)
 place_below (y ∷ ys) zero x at = omega arith
 place_below (y ∷ ys) (suc n) x at = let below = place_below ys n x at in omega (arith, below)
 
-in_front : (xs ys : List Value) (n : ℕ) (v : Value) → slice_get xs n ≡ Some v → slice_get (xs ++ ys) n ≡ Some v
-in_front [] ys n v at = absurd (none-some v at)
-in_front (x ∷ xs) ys zero v at = at
-in_front (x ∷ xs) ys (suc n) v at = in_front xs ys n v at
+in_prefix : (xs ys : List Value) (n : ℕ) (v : Value) → slice_get xs n ≡ Some v → slice_get (xs ++ ys) n ≡ Some v
+in_prefix [] ys n v at = absurd (none-some v at)
+in_prefix (x ∷ xs) ys zero v at = at
+in_prefix (x ∷ xs) ys (suc n) v at = in_prefix xs ys n v at
 
 one_behind : (m k : ℕ) → suc m + k ≡ suc (m + k)
 one_behind m k = omega arith
@@ -301,13 +301,13 @@ behind (x ∷ xs) ys n v at = ap (λ k. slice_get ((x ∷ xs) ++ ys) k) (one_beh
 pub arg_at : (f : Frame) (stack : List Value) (n : ℕ) (v : Value) → slice_get f.args n ≡ Some v
     → slice_get (over f stack) (length f.entry_args + n) ≡ Some v
 arg_at f stack n v at =
-    in_front (f.entry_args ++ f.args ++ f.locals) (reverse stack) (length f.entry_args + n) v
-    (in_front (f.entry_args ++ f.args) f.locals (length f.entry_args + n) v (behind f.entry_args f.args n v at))
+    in_prefix (f.entry_args ++ f.args ++ f.locals) (reverse stack) (length f.entry_args + n) v
+    (in_prefix (f.entry_args ++ f.args) f.locals (length f.entry_args + n) v (behind f.entry_args f.args n v at))
 
 pub local_at : (f : Frame) (stack : List Value) (n : ℕ) (v : Value) → slice_get f.locals n ≡ Some v
     → slice_get (over f stack) (length f.entry_args + length f.args + n) ≡ Some v
 local_at f stack n v at =
-    in_front (f.entry_args ++ f.args ++ f.locals) (reverse stack) (length f.entry_args + length f.args + n) v
+    in_prefix (f.entry_args ++ f.args ++ f.locals) (reverse stack) (length f.entry_args + length f.args + n) v
     (ap (λ k. slice_get (f.entry_args ++ f.args ++ f.locals) (k + n)) (sym (length-append f.entry_args f.args))
     ∙ behind (f.entry_args ++ f.args) f.locals n v at)
 

@@ -10,14 +10,14 @@ use Rattle.unit_builder.specs.Scopes.{scope_in}
 use Rattle.unit_verdicts.specs.Asked.{Asks}
 use Rattle.unit_verdicts.specs.Picks.{pick_from}
 use Rattle.unit_verdicts.specs.VerdictCache.{CachedUnits, manner_of}
-use Rattle.unit_verdicts.proofs.Asking.{asks_all, asks_front, front_all}
+use Rattle.unit_verdicts.proofs.Asking.{asks_all, asks_prefix, prefix_all}
 use Rattle.assembly_reports.specs.JudgedUnits.{asked_for, judged_keys, with_judged}
 use Rattle.assembly_reports.specs.CheckText.{all_shown, findings, outcome_finding, outcome_shown}
 use Rattle.assembly_reports.specs.Findings.{IsWithin}
 use Rattle.assembly_reports.specs.InferredUnits.{entry_by}
 use Rattle.assembly_reports.proofs.FewMethods.{methods_are_few}
 use Rattle.assembly_reports.proofs.FindAll.{AreKnown, all_taken, found_few, found_next, known_next, shown_next, there}
-use Rattle.assembly_reports.proofs.KeysAsked.{asked_next, front_at_next, front_of_whole, judged_next, keys_of}
+use Rattle.assembly_reports.proofs.KeysAsked.{asked_next, prefix_at_next, prefix_of_whole, judged_next, keys_of}
 use Rattle.assembly_reports.proofs.check_report.find_each.Goals as goal
 
 pub find-requires : goal.find-requires
@@ -97,9 +97,9 @@ returns-in_err-find-clause-asked g c =
     let below : n < length rows = rw (← c.methods-methods.ensures.methods) c.loop-index-test.true in
     let method = there rows n below in
     let p = err_from_is_err_and c.from_residual.result c.from_residual.ensures.1 in
-    let front = Asks.front ((rw same at c.in_err-find.ensures.asked) method.0 method.1) in
-    asks_front (asked_for cache (judged_keys (entries_in files c.args.file))) c.from_residual.result p.0 _ _ p.1
-    (front_at_next of rows n method.0 cache c.loop-index.cache method.2 c.loop-index.invariant.judged _ _ _ c.loop-index.invariant.asked front)
+    let prefix = Asks.prefix ((rw same at c.in_err-find.ensures.asked) method.0 method.1) in
+    asks_prefix (asked_for cache (judged_keys (entries_in files c.args.file))) c.from_residual.result p.0 _ _ p.1
+    (prefix_at_next of rows n method.0 cache c.loop-index.cache method.2 c.loop-index.invariant.judged _ _ _ c.loop-index.invariant.asked prefix)
 
 pub returns-in_err-push-clause-asked : goal.returns-in_err-push-clause-asked
 returns-in_err-push-clause-asked g c =
@@ -115,8 +115,8 @@ returns-in_err-push-clause-asked g c =
     let old = g.D.Finder.asked c.args.finder.now in
     let asked = asked_next of rows n method.0 cache c.loop-index.cache method.2 c.loop-index.invariant.judged old _ _ c.loop-index.invariant.asked
     (Asks.whole ((rw same at c.in_ok-find.ensures.asked) method.0 method.1)) in
-    asks_front (asked_for cache (judged_keys (entries_in files c.args.file))) c.from_residual-in_err-push.result p.0 _ _ p.1
-    (front_of_whole of rows (n + 1) cache old _ (front_all (asked_for cache (keys_of of (take (n + 1) rows))) old _ asked))
+    asks_prefix (asked_for cache (judged_keys (entries_in files c.args.file))) c.from_residual-in_err-push.result p.0 _ _ p.1
+    (prefix_of_whole of rows (n + 1) cache old _ (prefix_all (asked_for cache (keys_of of (take (n + 1) rows))) old _ asked))
 
 pub returns-clause-asked : goal.returns-clause-asked
 returns-clause-asked g c =

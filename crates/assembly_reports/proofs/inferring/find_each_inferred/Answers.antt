@@ -5,17 +5,17 @@ use Rattle.asm_image.proofs.FindLemmas.{rows_count}
 use Rattle.asm_image.specs.Rows.{methods_of}
 use Rattle.pe_reader.specs.Addresses.{metadata}
 use Rattle.unit_builder.specs.Outcomes.{entries_of}
-use Rattle.unit_verdicts.specs.Asked.{Asks, AsksFront}
+use Rattle.unit_verdicts.specs.Asked.{Asks, AsksPrefix}
 use Rattle.unit_verdicts.specs.Picks.{pick_from}
 use Rattle.unit_verdicts.specs.VerdictCache.{CachedUnits, manner_of}
-use Rattle.unit_verdicts.proofs.Asking.{asks_all, asks_front, front_all}
+use Rattle.unit_verdicts.proofs.Asking.{asks_all, asks_prefix, prefix_all}
 use Rattle.assembly_reports.specs.JudgedUnits.{asked_for, outcome_key, with_judged}
 use Rattle.assembly_reports.specs.CheckText.{all_shown, findings, outcome_finding, outcome_shown}
 use Rattle.assembly_reports.specs.Findings.{IsWithin}
 use Rattle.assembly_reports.specs.InferredUnits.{all_candidates, entry_by, inferred_entries, inferred_outcome}
 use Rattle.assembly_reports.proofs.FewMethods.{methods_are_few}
 use Rattle.assembly_reports.proofs.FindAll.{all_taken, found_few, found_next, shown_next, there}
-use Rattle.assembly_reports.proofs.KeysAsked.{asked_next, front_at_next, front_of_whole, judged_next, keys_of}
+use Rattle.assembly_reports.proofs.KeysAsked.{asked_next, prefix_at_next, prefix_of_whole, judged_next, keys_of}
 use Rattle.assembly_reports.proofs.inferring.find_each_inferred.Goals as goal
 
 pub find_inferred-requires : goal.find_inferred-requires
@@ -103,10 +103,10 @@ returns-in_err-one-clause-asked g c =
     let p = err_from_is_err_and c.from_residual.result c.from_residual.ensures.1 in
     let so_far = c.loop-index.invariant.judged in
     let now = c.loop-index.cache in
-    let front = subst (λ (units : CachedUnits). AsksFront (asked_for now (outcome_key (inferred_outcome (pick_from units.held) asm method.0)))
-    (g.D.Finder.asked c.loop-index.finder) (g.D.Finder.asked c.find_inferred.new.finder)) so_far (Asks.front (c.in_err-one.ensures.asked method.0 method.1)) in
-    asks_front (asked_for cache (keys_of of rows)) c.from_residual.result p.0 _ _ p.1
-    (front_at_next of rows n method.0 cache now method.2 so_far _ _ _ c.loop-index.invariant.asked front)
+    let prefix = subst (λ (units : CachedUnits). AsksPrefix (asked_for now (outcome_key (inferred_outcome (pick_from units.held) asm method.0)))
+    (g.D.Finder.asked c.loop-index.finder) (g.D.Finder.asked c.find_inferred.new.finder)) so_far (Asks.prefix (c.in_err-one.ensures.asked method.0 method.1)) in
+    asks_prefix (asked_for cache (keys_of of rows)) c.from_residual.result p.0 _ _ p.1
+    (prefix_at_next of rows n method.0 cache now method.2 so_far _ _ _ c.loop-index.invariant.asked prefix)
 
 pub returns-in_err-push-clause-asked : goal.returns-in_err-push-clause-asked
 unfolding inferred_entries
@@ -125,8 +125,8 @@ returns-in_err-push-clause-asked g c =
     let asked = asked_next of rows n method.0 cache now method.2 so_far old _ _ c.loop-index.invariant.asked
     (Asks.whole (subst (λ (units : CachedUnits). Asks (asked_for now (outcome_key (inferred_outcome (pick_from units.held) asm method.0))) (Ok c.in_ok-one.one)
     (g.D.Finder.asked c.loop-index.finder) (g.D.Finder.asked c.find_inferred.new.finder)) so_far (c.in_ok-one.ensures.asked method.0 method.1))) in
-    asks_front (asked_for cache (keys_of of rows)) c.from_residual-in_err-push.result p.0 _ _ p.1
-    (front_of_whole of rows (n + 1) cache old _ (front_all (asked_for cache (keys_of of (take (n + 1) rows))) old _ asked))
+    asks_prefix (asked_for cache (keys_of of rows)) c.from_residual-in_err-push.result p.0 _ _ p.1
+    (prefix_of_whole of rows (n + 1) cache old _ (prefix_all (asked_for cache (keys_of of (take (n + 1) rows))) old _ asked))
 
 pub returns-clause-asked : goal.returns-clause-asked
 unfolding inferred_entries

@@ -7,11 +7,11 @@ use Rattle.unit_builder.specs.Scopes.{scope_in}
 use Rattle.unit_verdicts.specs.Asked.{Asks}
 use Rattle.unit_verdicts.specs.Picks.{pick_from}
 use Rattle.unit_verdicts.specs.VerdictCache.{CachedUnits}
-use Rattle.unit_verdicts.proofs.Asking.{asks_all, asks_front, front_all}
+use Rattle.unit_verdicts.proofs.Asking.{asks_all, asks_prefix, prefix_all}
 use Rattle.assembly_reports.specs.JudgedUnits.{asked_for, judged_keys, with_judged}
 use Rattle.assembly_reports.specs.InferredUnits.{all_candidates, outcome_candidates}
 use Rattle.assembly_reports.proofs.FindAll.{AreKnown, all_taken, candidates_next, known_next, there}
-use Rattle.assembly_reports.proofs.KeysAsked.{asked_next, front_at_next, front_of_whole, judged_next, keys_of}
+use Rattle.assembly_reports.proofs.KeysAsked.{asked_next, prefix_at_next, prefix_of_whole, judged_next, keys_of}
 use Rattle.assembly_reports.proofs.inferring.infer_each.Goals as goal
 
 pub infer_at-requires : goal.infer_at-requires
@@ -73,9 +73,9 @@ returns-in_err-infer_at-clause-asked g c =
     let below : n < length rows = rw (← c.methods-methods.ensures.methods) c.loop-index-test.true in
     let method = there rows n below in
     let p = err_from_is_err_and c.from_residual.result c.from_residual.ensures.1 in
-    let front = Asks.front ((rw same at c.in_err-infer_at.ensures.asked) method.0 method.1) in
-    asks_front (asked_for cache (judged_keys (entries_in files c.args.file))) c.from_residual.result p.0 _ _ p.1
-    (front_at_next of rows n method.0 cache c.loop-index.cache method.2 c.loop-index.invariant.judged _ _ _ c.loop-index.invariant.asked front)
+    let prefix = Asks.prefix ((rw same at c.in_err-infer_at.ensures.asked) method.0 method.1) in
+    asks_prefix (asked_for cache (judged_keys (entries_in files c.args.file))) c.from_residual.result p.0 _ _ p.1
+    (prefix_at_next of rows n method.0 cache c.loop-index.cache method.2 c.loop-index.invariant.judged _ _ _ c.loop-index.invariant.asked prefix)
 
 pub returns-in_err-push-clause-asked : goal.returns-in_err-push-clause-asked
 returns-in_err-push-clause-asked g c =
@@ -91,8 +91,8 @@ returns-in_err-push-clause-asked g c =
     let old = g.D.Finder.asked c.args.finder.now in
     let asked = asked_next of rows n method.0 cache c.loop-index.cache method.2 c.loop-index.invariant.judged old _ _ c.loop-index.invariant.asked
     (Asks.whole ((rw same at c.in_ok-infer_at.ensures.asked) method.0 method.1)) in
-    asks_front (asked_for cache (judged_keys (entries_in files c.args.file))) c.from_residual-in_err-push.result p.0 _ _ p.1
-    (front_of_whole of rows (n + 1) cache old _ (front_all (asked_for cache (keys_of of (take (n + 1) rows))) old _ asked))
+    asks_prefix (asked_for cache (judged_keys (entries_in files c.args.file))) c.from_residual-in_err-push.result p.0 _ _ p.1
+    (prefix_of_whole of rows (n + 1) cache old _ (prefix_all (asked_for cache (keys_of of (take (n + 1) rows))) old _ asked))
 
 pub returns-clause-asked : goal.returns-clause-asked
 returns-clause-asked g c =

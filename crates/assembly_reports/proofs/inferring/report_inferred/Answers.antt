@@ -5,11 +5,11 @@ use Rattle.assembly_answers.proofs.PlainTexts.{methods_plain}
 use Rattle.unit_verdicts.specs.Asked.{Asks}
 use Rattle.unit_verdicts.specs.Picks.{pick_from}
 use Rattle.unit_verdicts.specs.VerdictCache.{CachedUnits, manner_of}
-use Rattle.unit_verdicts.proofs.Asking.{asks_all, asks_front, asks_nothing}
+use Rattle.unit_verdicts.proofs.Asking.{asks_all, asks_prefix, asks_nothing}
 use Rattle.assembly_reports.specs.CheckText.{all_shown, findings, is_proved}
 use Rattle.assembly_reports.specs.Findings.{finding_in, shown_in}
 use Rattle.assembly_reports.specs.InferredUnits.{inferred_entries, inferred_outcome}
-use Rattle.assembly_reports.proofs.InferredReports.{both_asked, both_judged, first_front, held_same, lists_are, one_file, runs}
+use Rattle.assembly_reports.proofs.InferredReports.{both_asked, both_judged, first_prefix, held_same, lists_are, one_file, runs}
 use Rattle.assembly_reports.proofs.ReportedLines.{found_are_proved}
 use Rattle.assembly_reports.proofs.inferring.report_inferred.Goals as goal
 
@@ -75,14 +75,14 @@ returns-in_err-units-clause-asked g c =
 pub returns-in_err-inferred-clause-asked : goal.returns-in_err-inferred-clause-asked
 returns-in_err-inferred-clause-asked g c =
     let p = err_from_is_err_and c.from_residual-in_err-inferred.result c.from_residual-in_err-inferred.ensures.1 in
-    asks_front _ c.from_residual-in_err-inferred.result p.0 _ _ p.1
-    (first_front _ c.args.assembly.now c.args.cache.now _ _ _ c.in_ok-units.ensures (Asks.front c.in_err-inferred.ensures.asked))
+    asks_prefix _ c.from_residual-in_err-inferred.result p.0 _ _ p.1
+    (first_prefix _ c.args.assembly.now c.args.cache.now _ _ _ c.in_ok-units.ensures (Asks.prefix c.in_err-inferred.ensures.asked))
 
 pub returns-in_err-found-clause-asked : goal.returns-in_err-found-clause-asked
 returns-in_err-found-clause-asked g c =
     let p = err_from_is_err_and c.from_residual-in_err-found.result c.from_residual-in_err-found.ensures.1 in
-    asks_front _ c.from_residual-in_err-found.result p.0 _ _ p.1
-    (Asks.front (both_asked _ c.args.assembly.now c.args.cache.now c.infer_each.new.cache c.in_ok-units.ensures c.in_ok-inferred.ensures.cache _ _ _ _
+    asks_prefix _ c.from_residual-in_err-found.result p.0 _ _ p.1
+    (Asks.prefix (both_asked _ c.args.assembly.now c.args.cache.now c.infer_each.new.cache c.in_ok-units.ensures c.in_ok-inferred.ensures.cache _ _ _ _
     (Asks.whole c.in_ok-inferred.ensures.asked) c.in_err-found.ensures.asked))
 
 pub returns-clause-asked : goal.returns-clause-asked
@@ -94,6 +94,6 @@ returns-clause-asked g c =
 pub returns-in_err-lines-clause-asked : goal.returns-in_err-lines-clause-asked
 returns-in_err-lines-clause-asked g c =
     let p = err_from_is_err_and c.from_residual-in_err-lines.result c.from_residual-in_err-lines.ensures.1 in
-    asks_front _ c.from_residual-in_err-lines.result p.0 _ _ p.1
-    (Asks.front (both_asked _ c.args.assembly.now c.args.cache.now c.infer_each.new.cache c.in_ok-units.ensures c.in_ok-inferred.ensures.cache _ _ _ _
+    asks_prefix _ c.from_residual-in_err-lines.result p.0 _ _ p.1
+    (Asks.prefix (both_asked _ c.args.assembly.now c.args.cache.now c.infer_each.new.cache c.in_ok-units.ensures c.in_ok-inferred.ensures.cache _ _ _ _
     (Asks.whole c.in_ok-inferred.ensures.asked) c.in_ok-found.ensures.asked))

@@ -6,8 +6,8 @@ use Rattle.cc_base.proofs.compressed.compressed_number.Goals as goal
 
 pub returns-clause-found : goal.returns-clause-found
 returns-clause-found c =
-    compressed_found c.args.bytes.now c.front_number.result (IsBytes-from_fits c.args.bytes.now c.type_inv.bytes) c.front_number.ensures.exact
+    compressed_found c.args.bytes.now c.prefix_number.result (IsBytes-from_fits c.args.bytes.now c.type_inv.bytes) c.prefix_number.ensures.exact
 
 pub returns-clause-only : goal.returns-clause-only
 returns-clause-only c = λ n spelling rest spells stands.
-    c.front_number.ensures.exact ∙ ap compressed stands ∙ compressed_only n spelling rest spells
+    c.prefix_number.ensures.exact ∙ ap compressed stands ∙ compressed_only n spelling rest spells

@@ -11,13 +11,13 @@ use Rattle.command_words.specs.Words.{words_bytes}
 use Rattle.unit_verdicts.specs.Asked.{Asks}
 use Rattle.unit_verdicts.specs.Picks.{pick_from}
 use Rattle.unit_verdicts.specs.VerdictCache.{manner_of}
-use Rattle.unit_verdicts.proofs.Asking.{asks_all, asks_front, asks_nothing}
+use Rattle.unit_verdicts.proofs.Asking.{asks_all, asks_prefix, asks_nothing}
 use Rattle.check_driver.specs.Asked.{check_keys}
 use Rattle.assembly_reports.specs.JudgedUnits.{report_keys, with_judged}
 use Rattle.assembly_reports.specs.Reportable.{IsReportable}
 use Rattle.check_driver.specs.Met.{bytes_read}
 use Rattle.check_driver.proofs.CheckParts.{if_ok, where_ok}
-use Rattle.assembly_reports.proofs.Judging.{asks_for_none, asks_later, front_of_first, judged_more, judged_none}
+use Rattle.assembly_reports.proofs.Judging.{asks_for_none, asks_later, prefix_of_first, judged_more, judged_none}
 use Rattle.check_driver.proofs.SeveralFiles.{answer_of_first, answer_refused, asks_for_later, asks_is, begun_first, begun_more, begun_of_first, first_is, gives_both, gives_is, gives_later_stop, gives_nothing, gives_stop, judged_for_later, keys_of_first, no_answer, no_file, no_keys, no_runnable, runnable_of_first, runnable_refused}
 use Rattle.check_driver.proofs.check_answer.+answer_each.Goals as goal
 
@@ -111,7 +111,7 @@ returns-in_err-status-in-Ok-clause-begun g t c =
     c.in-len1-up-read.len_at_least refl c.bytes-item.is (c.as_bytes-name.ensures.value ∙ c.word_at.ensures) c.deref.ensures.value in
     begun_of_first c.args.infer (manner_of c.args.cache.now) (words_bytes c.args.given.now.words.now) c.args.given.now.indexes.now c.args.given.now.read.now name c.deref.result.now is _ _
     (begun_first c.args.infer (manner_of c.args.cache.now) name c.deref.result.now _ _ _ (rw c.in-Ok.ensures.value.same at c.in_err-status-in-Ok.ensures.reportable)
-    (Writes.front (rw c.in-Ok.ensures.value.same at c.in_err-status-in-Ok.ensures.written)))
+    (Writes.prefix (rw c.in-Ok.ensures.value.same at c.in_err-status-in-Ok.ensures.written)))
 
 pub returns-in_err-status-in-Ok-clause-asked : goal.returns-in_err-status-in-Ok-clause-asked
 returns-in_err-status-in-Ok-clause-asked g t c =
@@ -121,8 +121,8 @@ returns-in_err-status-in-Ok-clause-asked g t c =
     c.in-len1-up-read.len_at_least refl c.bytes-item.is (c.as_bytes-name.ensures.value ∙ c.word_at.ensures) c.deref.ensures.value in
     asks_is c.args.cache.now _ _ c.from_residual.result _ _
     (keys_of_first c.args.infer (manner_of c.args.cache.now) (words_bytes c.args.given.now.words.now) c.args.given.now.indexes.now c.args.given.now.read.now name c.deref.result.now is c.in-Ok.ensures.accepted)
-    (asks_front _ c.from_residual.result p.0 _ _ p.1
-    (front_of_first c.args.cache.now (report_keys c.args.infer (pick_from c.args.cache.now.held) c.deref.result.now) _ _ _ (Asks.front (rw c.in-Ok.ensures.value.same at c.in_err-status-in-Ok.ensures.asked))))
+    (asks_prefix _ c.from_residual.result p.0 _ _ p.1
+    (prefix_of_first c.args.cache.now (report_keys c.args.infer (pick_from c.args.cache.now.held) c.deref.result.now) _ _ _ (Asks.prefix (rw c.in-Ok.ensures.value.same at c.in_err-status-in-Ok.ensures.asked))))
 
 -- ---- a later one is interrupted
 
@@ -156,8 +156,8 @@ returns-in_err-others-in-Ok-clause-asked g t c =
     c.in-len1-up-read.len_at_least refl c.bytes-item.is (c.as_bytes-name.ensures.value ∙ c.word_at.ensures) c.deref.ensures.value in
     asks_is c.args.cache.now _ _ c.from_residual-in_err-others-in-Ok.result _ _
     (keys_of_first c.args.infer (manner_of c.args.cache.now) (words_bytes c.args.given.now.words.now) c.args.given.now.indexes.now c.args.given.now.read.now name c.deref.result.now is c.in-Ok.ensures.accepted)
-    (asks_front _ c.from_residual-in_err-others-in-Ok.result p.0 _ _ p.1
-    (Asks.front (asks_later c.args.cache.now c.answer_assembly.new.cache (report_keys c.args.infer (pick_from c.args.cache.now.held) c.deref.result.now) (rw c.in-Ok.ensures.value.same at c.in_ok-status-in-Ok.ensures.cache) _ _ _ _ _
+    (asks_prefix _ c.from_residual-in_err-others-in-Ok.result p.0 _ _ p.1
+    (Asks.prefix (asks_later c.args.cache.now c.answer_assembly.new.cache (report_keys c.args.infer (pick_from c.args.cache.now.held) c.deref.result.now) (rw c.in-Ok.ensures.value.same at c.in_ok-status-in-Ok.ensures.cache) _ _ _ _ _
     (Asks.whole (rw c.in-Ok.ensures.value.same at c.in_ok-status-in-Ok.ensures.asked)) (asks_for_later c.args.infer c.args.cache.now c.answer_assembly.new.cache _ _ _ _ _ (rw c.in-Ok.ensures.value.same at c.in_ok-status-in-Ok.ensures.cache) c.in_err-others-in-Ok.ensures.asked))))
 
 -- ---- all are answered

@@ -6,7 +6,7 @@ use Rattle.answer_lines.specs.declared.interrupt.Interrupt.{Interrupt}
 use Rattle.command_words.specs.Words.{check_files, words_bytes}
 use Rattle.unit_verdicts.specs.Asked.{Asks}
 use Rattle.unit_verdicts.specs.VerdictCache.{CachedUnits}
-use Rattle.unit_verdicts.proofs.Asking.{asks_all, asks_front, asks_nothing}
+use Rattle.unit_verdicts.proofs.Asking.{asks_all, asks_prefix, asks_nothing}
 use Rattle.check_driver.specs.CallRead.{cache_of, files_of}
 use Rattle.check_driver.proofs.CheckParts.{as_many, asked_reports, first_keeps_for, honest_as_before, honest_left, infers_keeps, keeps_for, knows_check, leaves_as_before, left_at_last, left_or_not, reported, stopped_at_cache, stopped_at_line}
 use Rattle.check_driver.proofs.SeveralFiles.{begun_none}
@@ -93,7 +93,7 @@ pub returns-in_err-status-clause-asked : goal.returns-in_err-status-clause-asked
 returns-in_err-status-clause-asked g c =
     let p = err_from_is_err_and c.from_residual-in_err-status.result c.from_residual-in_err-status.ensures.1 in
     asked_reports c.args.check (words_bytes c.args.given.now.words.now) (cache_of c.args.given.now) (files_of c.args.given.now) c.in_ok-units.units c.from_residual-in_err-status.result _ _
-    c.in_ok-units.ensures.cache (asks_front _ c.from_residual-in_err-status.result p.0 _ _ p.1 (Asks.front (rw c.infers.ensures at c.in_err-status.ensures.asked)))
+    c.in_ok-units.ensures.cache (asks_prefix _ c.from_residual-in_err-status.result p.0 _ _ p.1 (Asks.prefix (rw c.infers.ensures at c.in_err-status.ensures.asked)))
 
 pub returns-in_err-status-clause-left : goal.returns-in_err-status-clause-left
 returns-in_err-status-clause-left g c =

@@ -4,10 +4,10 @@ use Rattle.answer_lines.specs.Writing.{Writes}
 use Rattle.command_words.specs.Words.{words_bytes}
 use Rattle.unit_verdicts.specs.Asked.{Asks}
 use Rattle.unit_verdicts.specs.VerdictCache.{manner_of}
-use Rattle.unit_verdicts.proofs.Asking.{asks_all, asks_front}
+use Rattle.unit_verdicts.proofs.Asking.{asks_all, asks_prefix}
 use Rattle.assembly_reports.specs.JudgedUnits.{judged_keys}
 use Rattle.assembly_reports.specs.Reportable.{entries_at}
-use Rattle.assembly_reports.proofs.Judging.{asked_more, asks_for_none, asks_later, front_of_first, judged_more}
+use Rattle.assembly_reports.proofs.Judging.{asked_more, asks_for_none, asks_later, prefix_of_first, judged_more}
 use Rattle.check_driver.proofs.LinkedAnswers.{entries_is, first_begun, head_is, more_begun, no_index, reported_is, writes_both, writes_later_stop, writes_nothing, writes_stop}
 use Rattle.check_driver.proofs.linked_answer.+answer_files.Goals as goal
 
@@ -37,7 +37,7 @@ returns-in_err-status-clause-begun g t c =
     let is = head_is indexes (get_or indexes 0 0) c.in-len1-up.len_at_least refl in
     let reported = reported_is c.args.units.now c.args.file words indexes (get_or indexes 0 0) c.as_bytes-name.result.now is (c.as_bytes-name.ensures.value ∙ c.word_at.ensures) in
     rw reported
-    (first_begun (manner_of c.args.cache.now) c.as_bytes-name.result.now (entries_at c.args.units.now c.args.file) _ _ _ c.in_err-status.ensures.runnable (Writes.front c.in_err-status.ensures.written))
+    (first_begun (manner_of c.args.cache.now) c.as_bytes-name.result.now (entries_at c.args.units.now c.args.file) _ _ _ c.in_err-status.ensures.runnable (Writes.prefix c.in_err-status.ensures.written))
 
 pub returns-in_err-status-clause-asked : goal.returns-in_err-status-clause-asked
 returns-in_err-status-clause-asked g t c =
@@ -47,8 +47,8 @@ returns-in_err-status-clause-asked g t c =
     let is = head_is indexes (get_or indexes 0 0) c.in-len1-up.len_at_least refl in
     let entries = entries_is c.args.units.now c.args.file words indexes (get_or indexes 0 0) c.as_bytes-name.result.now is (c.as_bytes-name.ensures.value ∙ c.word_at.ensures) in
     rw entries
-    (asks_front _ c.from_residual.result p.0 _ _ p.1
-    (front_of_first c.args.cache.now (judged_keys (entries_at c.args.units.now c.args.file)) _ _ _ (Asks.front c.in_err-status.ensures.asked)))
+    (asks_prefix _ c.from_residual.result p.0 _ _ p.1
+    (prefix_of_first c.args.cache.now (judged_keys (entries_at c.args.units.now c.args.file)) _ _ _ (Asks.prefix c.in_err-status.ensures.asked)))
 
 -- ---- a later one is interrupted
 
@@ -81,8 +81,8 @@ returns-in_err-others-clause-asked g t c =
     let is = head_is indexes (get_or indexes 0 0) c.in-len1-up.len_at_least refl in
     let entries = entries_is c.args.units.now c.args.file words indexes (get_or indexes 0 0) c.as_bytes-name.result.now is (c.as_bytes-name.ensures.value ∙ c.word_at.ensures) in
     rw entries
-    (asks_front _ c.from_residual-in_err-others.result p.0 _ _ p.1
-    (Asks.front (asks_later c.args.cache.now c.answer_file.new.cache (judged_keys (entries_at c.args.units.now c.args.file)) c.in_ok-status.ensures.cache _ _ _ _ _
+    (asks_prefix _ c.from_residual-in_err-others.result p.0 _ _ p.1
+    (Asks.prefix (asks_later c.args.cache.now c.answer_file.new.cache (judged_keys (entries_at c.args.units.now c.args.file)) c.in_ok-status.ensures.cache _ _ _ _ _
     (Asks.whole c.in_ok-status.ensures.asked) (rw c.in_ok-status.ensures.same at c.in_err-others.ensures.asked))))
 
 -- ---- all are answered

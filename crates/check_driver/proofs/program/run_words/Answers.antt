@@ -2,7 +2,7 @@ use Rattle.std.proofs.Common.{◌≢◌, sym, ◌∙◌}
 use Rattle.command_words.specs.Words.{cache_name, linked_files, proof_name, read_names, words_at, words_bytes}
 use Rattle.answer_lines.specs.Outcome.{status_of}
 use Rattle.answer_lines.specs.Writing.{change_of}
-use Rattle.answer_lines.proofs.Leaving.{front_given}
+use Rattle.answer_lines.proofs.Leaving.{prefix_given}
 use Rattle.check_driver.specs.Asked.{asked_by}
 use Rattle.check_driver.specs.CacheMet.{IsMet}
 use Rattle.check_driver.specs.Expected.{expected}
@@ -31,7 +31,7 @@ returns-clause-output g c =
       met,
       answer.1,
       rw c.finish.ensures.status
-          (leaves_plainly (expected words met) (read_names words) _ _ c.answer_words-answered.result _ _ _ _ _ _ _ _ _ _ (plain_expected words met c.answer_words-answered.result c.answer_words-answered.ensures.memory) answer.2 c.finish.ensures.front c.finish.ensures.puts),
+          (leaves_plainly (expected words met) (read_names words) _ _ c.answer_words-answered.result _ _ _ _ _ _ _ _ _ _ (plain_expected words met c.answer_words-answered.result c.answer_words-answered.ensures.memory) answer.2 c.finish.ensures.prefix c.finish.ensures.puts),
       rw c.finish.ensures.status (leaves_asked (asked_by words met) c.answer_words-answered.result _ _ answer.3),
       rw c.finish.ensures.status (leaves_files (left_by words met) (expected words met).out c.answer_words-answered.result _ _ _ answer.4),
     )
@@ -50,7 +50,7 @@ returns-clause-cache g c = λ held other told asks honest read written memory.
     let status = c.finish.ensures.status in
     let ends =
     leaves_plainly (expected words met) (read_names words) _ _ c.answer_words-answered.result _ _ _ _ _ _ _ _ _ (g.E.Sink.faults c.finish.new.err) (plain_expected words met c.answer_words-answered.result c.answer_words-answered.ensures.memory) answer.2
-    c.finish.ensures.front c.finish.ensures.puts in
+    c.finish.ensures.prefix c.finish.ensures.puts in
     let not_read : status_of c.answer_words-answered.result ≢ 4 = λ e. read (status ∙ e) in
     let not_written : status_of c.answer_words-answered.result ≢ 6 = λ e. written (status ∙ e) in
     let no_memory : status_of c.answer_words-answered.result ≢ 7 = λ e. memory (status ∙ e) in
@@ -66,7 +66,7 @@ returns-clause-linked_cache g c = λ held other told asks honest read written me
     let status = c.finish.ensures.status in
     let ends =
     leaves_plainly (expected words met) (read_names words) _ _ c.answer_words-answered.result _ _ _ _ _ _ _ _ _ (g.E.Sink.faults c.finish.new.err) (plain_expected words met c.answer_words-answered.result c.answer_words-answered.ensures.memory) answer.2
-    c.finish.ensures.front c.finish.ensures.puts in
+    c.finish.ensures.prefix c.finish.ensures.puts in
     let not_read : status_of c.answer_words-answered.result ≢ 4 = λ e. read (status ∙ e) in
     let not_written : status_of c.answer_words-answered.result ≢ 6 = λ e. written (status ∙ e) in
     let no_memory : status_of c.answer_words-answered.result ≢ 7 = λ e. memory (status ∙ e) in
@@ -129,7 +129,7 @@ returns-clause-refuted g c = λ held bytes token told asks prints safe.
     let answer = c.answer_words-answered.ensures.answer in
     let written = g.O.Sink.written in
     refuted_is_unsafe (g.F.Files.held c.args.files.now) words held bytes token answer.0 (written c.args.out.now) (written c.answer_words-answered.new.out) told asks (IsMet.files answer.1)
-    (front_given (expected words answer.0) (read_names words) _ _ c.answer_words-answered.result
+    (prefix_given (expected words answer.0) (read_names words) _ _ c.answer_words-answered.result
     (change_of written g.O.Sink.puts g.O.Sink.faults c.args.out.now c.answer_words-answered.new.out) _ answer.2)
     prints safe
 
@@ -139,7 +139,7 @@ returns-clause-single_unit g c = λ held bytes signature told asks prints.
     let answer = c.answer_words-answered.ensures.answer in
     let written = g.O.Sink.written in
     proved_unit_is_safe (g.F.Files.held c.args.files.now) words held bytes signature answer.0 (written c.args.out.now) (written c.answer_words-answered.new.out) told asks (IsMet.files answer.1)
-    (front_given (expected words answer.0) (read_names words) _ _ c.answer_words-answered.result
+    (prefix_given (expected words answer.0) (read_names words) _ _ c.answer_words-answered.result
     (change_of written g.O.Sink.puts g.O.Sink.faults c.args.out.now c.answer_words-answered.new.out) _ answer.2)
     c.answer_words-answered.ensures.spelled prints
 

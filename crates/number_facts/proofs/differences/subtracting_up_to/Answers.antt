@@ -1,6 +1,6 @@
 use Rattle.std.proofs.Common.{rules, nat_le}
 use Rattle.std.proofs.lemmas.List.Sorted.{IsPartitionPoint-from_clause, IsPartitionedBy-leb}
-use Rattle.pentagon_domain.proofs.Searches.{passing_front}
+use Rattle.pentagon_domain.proofs.Searches.{passing_prefix}
 use Rattle.number_facts.proofs.differences.subtracting_up_to.Goals as goal
 
 pub returns : goal.returns
@@ -9,4 +9,4 @@ returns c =
     let y = c.args.y in
     let parts = IsPartitionPoint-from_clause (λ d. nat_le d.subtrahend.sym y) ds _ c.partition_point-end.ensures.partitioned
     (IsPartitionedBy-leb (λ d. d.subtrahend.sym) ds y c.requires) (λ a r g called. search rules) in
-    passing_front (λ d. nat_le d.subtrahend.sym y) ds _ c.partition_point-end.ensures.bound parts.0 parts.1
+    passing_prefix (λ d. nat_le d.subtrahend.sym y) ds _ c.partition_point-end.ensures.bound parts.0 parts.1

@@ -1,6 +1,6 @@
 use Rattle.std.proofs.Common.{rules, nat_le}
 use Rattle.std.proofs.lemmas.List.Sorted.{IsPartitionPoint-from_clause, IsPartitionedBy-leb}
-use Rattle.pentagon_domain.proofs.Searches.{passing_front}
+use Rattle.pentagon_domain.proofs.Searches.{passing_prefix}
 use Rattle.pentagon_domain.proofs.search.rows_to_until.Goals as goal
 
 pub returns : goal.returns
@@ -9,4 +9,4 @@ returns c =
     let t = c.args.t in
     let parts = IsPartitionPoint-from_clause (λ row. nat_le row.t t) rows _ c.partition_point-end.ensures.partitioned
     (IsPartitionedBy-leb (λ row. row.t) rows t c.requires) (λ a r g called. search rules) in
-    passing_front (λ row. nat_le row.t t) rows _ c.partition_point-end.ensures.bound parts.0 parts.1
+    passing_prefix (λ row. nat_le row.t t) rows _ c.partition_point-end.ensures.bound parts.0 parts.1

@@ -5,12 +5,12 @@ use Rattle.result_cache.proofs.cache_writer.kept_count.Goals as goal
 pub loop-place-init : goal.loop-place-init
 loop-place-init g c = room_none (g.E.Entries.entries c.args.entries.now)
 
-pub returns-in_default-clause-front : goal.returns-in_default-clause-front
-returns-in_default-clause-front g c =
+pub returns-in_default-clause-prefix : goal.returns-in_default-clause-prefix
+returns-in_default-clause-prefix g c =
     room_past (g.E.Entries.entries c.args.entries.now) c.loop-place.place c.loop-place.left (sym c.in_default.ensures) c.loop-place.invariant
 
-pub returns-in_default-left_behind-clause-front : goal.returns-in_default-left_behind-clause-front
-returns-in_default-left_behind-clause-front g c =
+pub returns-in_default-left_behind-clause-prefix : goal.returns-in_default-left_behind-clause-prefix
+returns-in_default-left_behind-clause-prefix g c =
     room_ends (g.E.Entries.entries c.args.entries.now) c.loop-place.place c.loop-place.left (c.in-Some.key.now, c.in-Some.invariant.now)
     c.loop-place.invariant (sym c.in-Some.ensures) (sym c.in_default-left_behind.ensures)
 

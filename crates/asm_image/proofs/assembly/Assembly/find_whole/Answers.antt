@@ -6,7 +6,7 @@ use Rattle.asm_image.specs.Cells.{method_count}
 use Rattle.asm_image.specs.Find.{last_named, one_more}
 use Rattle.asm_image.specs.Names.{short_name, printed_name}
 use Rattle.asm_image.specs.Rows.{method_token}
-use Rattle.asm_image.proofs.FindLemmas.{whole_start, front_start, whole_next, front_next, before_is, last_within, row_at, rows_count, token_of_row, name_of_row}
+use Rattle.asm_image.proofs.FindLemmas.{whole_start, prefix_start, whole_next, prefix_next, before_is, last_within, row_at, rows_count, token_of_row, name_of_row}
 use Rattle.asm_image.proofs.assembly.Assembly.find_whole.Goals as goal
 use Rattle.asm_image.proofs.assembly.Assembly.find_whole.Goals.{then-eq, else-eq}
 
@@ -17,7 +17,7 @@ loop-row-init c =
     let last : c.last_of-row.result ≡ last_named md short (method_count md) = c.last_of-row.ensures ∙ c.self.invariant.names_kept.lasts short in
     rw (← c.self.view_is) (record {
       within = omega (arith, last, last_within md short (method_count md));
-      has = front_start md c.args.name.now short (method_count md) c.last_of-row.result c.short_name-short.ensures last;
+      has = prefix_start md c.args.name.now short (method_count md) c.last_of-row.result c.short_name-short.ensures last;
       rest = whole_start md c.args.name.now short (method_count md) c.last_of-row.result c.short_name-short.ensures last;
     })
 
@@ -60,6 +60,6 @@ loop-row-preserved c =
     ] in
     rw (← c.self.view_is) (record {
       within = omega (arith, before, last_within md (short_name md row) (row - 1), within);
-      has = front_next md name row c.before-row.result has before;
+      has = prefix_next md name row c.before-row.result has before;
       rest = whole_next md name row c.before-row.result c.loop-row.found c.if-eq.found _ has some before more (rw (← c.self.view_is) at c.loop-row.invariant.rest);
     })

@@ -10,8 +10,8 @@ use Rattle.pentagon_domain.specs.Gaps.{AreBelow}
 use Rattle.pentagon_domain.proofs.Searches.{before_other, hit, nothing_later, skipped}
 
 -- The rows before any of two symbols.
-abbrev pub front : ℕ → ℕ → List BoundRow → List BoundRow
-front s t rows = filter (λ row. is_before row s t) rows
+abbrev pub prefix : ℕ → ℕ → List BoundRow → List BoundRow
+prefix s t rows = filter (λ row. is_before row s t) rows
 
 -- The rows with a bound, if there is one.
 abbrev pub put_some : List BoundRow → ℕ → ℕ → Option ℤ → List BoundRow
@@ -35,11 +35,11 @@ later_behind row later s t behind before = grind (arith, nat_tests)
 later_next : (row later : BoundRow) (s t : ℕ) → is_of row s t ≡ true → is_before row later.s later.t ≡ true → is_before later s (t + 1) ≡ false
 later_next row later s t here before = grind (arith, nat_tests)
 
-none_before : (row : BoundRow) (rows : List BoundRow) (s t : ℕ) → is_before row s t ≡ false → AllByRecursion (StandsBefore row) rows → front s t rows ≡ []
+none_before : (row : BoundRow) (rows : List BoundRow) (s t : ℕ) → is_before row s t ≡ false → AllByRecursion (StandsBefore row) rows → prefix s t rows ≡ []
 none_before row [] s t behind later = refl
 none_before row (next ∷ rows) s t behind later = rw (later_behind row next s t behind later.0) (none_before row rows s t behind later.1)
 
-none_next : (row : BoundRow) (rows : List BoundRow) (s t : ℕ) → is_of row s t ≡ true → AllByRecursion (StandsBefore row) rows → front s (t + 1) rows ≡ []
+none_next : (row : BoundRow) (rows : List BoundRow) (s t : ℕ) → is_of row s t ≡ true → AllByRecursion (StandsBefore row) rows → prefix s (t + 1) rows ≡ []
 none_next row [] s t here later = refl
 none_next row (next ∷ rows) s t here later = rw (later_next row next s t here later.0) (none_next row rows s t here later.1)
 
@@ -57,14 +57,14 @@ is_bound row s t here =
     rw (sym from, sym to) refl
 
 -- Behind the rows before two symbols comes what is stored of them.
-pub put_front : (rows : List BoundRow) (s t : ℕ) → AreBounds rows → put_some (front s t rows) s t (stored rows s t) ≡ front s (t + 1) rows
-put_front [] s t form = refl
-put_front (row ∷ rows) s t form =
+pub put_prefix : (rows : List BoundRow) (s t : ℕ) → AreBounds rows → put_some (prefix s t rows) s t (stored rows s t) ≡ prefix s (t + 1) rows
+put_prefix [] s t form = refl
+put_prefix (row ∷ rows) s t form =
     elim (cases_Bool (is_before row s t)) [
       | inl before ↦
-          let rest = put_front rows s t form.2 in
+          let rest = put_prefix rows s t form.2 in
           rw (before, before_next row s t before, skipped row rows s t (before_other row s t before))
-          (put_behind row (front s t rows) s t (stored rows s t) before ∙ ap (λ ys. row ∷ ys) rest)
+          (put_behind row (prefix s t rows) s t (stored rows s t) before ∙ ap (λ ys. row ∷ ys) rest)
       | inr behind ↦
           elim (cases_Bool (is_of row s t)) [
             | inl here ↦
@@ -83,7 +83,7 @@ pair_from : (row : BoundRow) → is_pair row.s row.t ≡ true → is_before row 
 pair_from row pair = grind (arith, nat_tests)
 
 -- No row stands before the symbols 1 and 1.
-pub none_first : (rows : List BoundRow) → AreBounds rows → front 1 1 rows ≡ []
+pub none_first : (rows : List BoundRow) → AreBounds rows → prefix 1 1 rows ≡ []
 none_first [] form = refl
 none_first (row ∷ rows) form = rw (pair_from row form.0) (none_first rows form.2)
 
@@ -104,19 +104,19 @@ same_step : (row : BoundRow) (rows others : List BoundRow) (p q : Bool) → p �
 same_step row rows others p q same rest = rw (same, rest) refl
 
 -- Behind all symbols up to a number come those from the next symbol.
-pub front_next : (rows : List BoundRow) (s n : ℕ) → AreBounds rows → AllByRecursion (AreBelow (n + 1)) rows → front s (n + 1) rows ≡ front (s + 1) 1 rows
-front_next [] s n form below = refl
-front_next (row ∷ rows) s n form below =
-    same_step row (front s (n + 1) rows) (front (s + 1) 1 rows) (is_before row s (n + 1)) (is_before row (s + 1) 1)
-    (below_next row s n form.0 below.0.to) (front_next rows s n form.2 below.1)
+pub prefix_next : (rows : List BoundRow) (s n : ℕ) → AreBounds rows → AllByRecursion (AreBelow (n + 1)) rows → prefix s (n + 1) rows ≡ prefix (s + 1) 1 rows
+prefix_next [] s n form below = refl
+prefix_next (row ∷ rows) s n form below =
+    same_step row (prefix s (n + 1) rows) (prefix (s + 1) 1 rows) (is_before row s (n + 1)) (is_before row (s + 1) 1)
+    (below_next row s n form.0 below.0.to) (prefix_next rows s n form.2 below.1)
 
 below_all : (row : BoundRow) (n : ℕ) → row.s < n + 1 → is_before row (n + 1) 1 ≡ true
 below_all row n below = grind (arith, nat_tests)
 
 -- All rows stand before a symbol that is greater than each of theirs.
-pub all_front : (rows : List BoundRow) (n : ℕ) → AllByRecursion (AreBelow (n + 1)) rows → front (n + 1) 1 rows ≡ rows
-all_front [] n below = refl
-all_front (row ∷ rows) n below = rw (below_all row n below.0.from) (ap (λ ys. row ∷ ys) (all_front rows n below.1))
+pub all_prefix : (rows : List BoundRow) (n : ℕ) → AllByRecursion (AreBelow (n + 1)) rows → prefix (n + 1) 1 rows ≡ rows
+all_prefix [] n below = refl
+all_prefix (row ∷ rows) n below = rw (below_all row n below.0.from) (ap (λ ys. row ∷ ys) (all_prefix rows n below.1))
 
 -- ---- what is stored
 
