@@ -111,12 +111,26 @@ fn append_fields(out: &mut Vec<u8>, unit: &Unit) -> Result<(), AllocError>
     Ok(())
 }
 
+/// The bytes of the magic, the result, the size of the stack and the lengths and counts.
+const FIXED_BYTES: usize = 19;
+
+/// As many bytes as the file of a unit has that calls no method and to which no clauses were added.
+fn least_room(unit: &Unit) -> usize {
+    unit.name
+        .as_slice()
+        .len()
+        .saturating_add(unit.args.as_slice().len())
+        .saturating_add(unit.locals.as_slice().len())
+        .saturating_add(unit.code.as_slice().len())
+        .saturating_add(FIXED_BYTES)
+}
+
 /// The file of a unit to which no clauses were added, in the second form.
 fn second_bytes(alloc: Global, unit: &Unit) -> Result<Vec<u8>, AllocError>
     requires fields { HasFields unit.now }
     ensures { IfOk result (λ bytes. bytes.items ≡ magic Second ++ fields_bytes Second unit.now) }
 {
-    let mut out = Vec::new(alloc);
+    let mut out = Vec::with_capacity(alloc, least_room(unit))?;
     out.extend_from_slice(b"CCU2")?;
     append_fields(&mut out, unit)?;
     Ok(out)
@@ -128,7 +142,7 @@ fn third_bytes(alloc: Global, unit: &Unit, added: &[Clause]) -> Result<Vec<u8>, 
     requires few { length added.now < 2 ^ 8 }
     ensures { IfOk result (λ bytes. bytes.items ≡ magic Third ++ (fields_bytes Second unit.now ++ clauses_bytes Second added.now)) }
 {
-    let mut out = Vec::new(alloc);
+    let mut out = Vec::with_capacity(alloc, least_room(unit))?;
     out.extend_from_slice(b"CCU3")?;
     append_fields(&mut out, unit)?;
     append_clauses(&mut out, added)?;
