@@ -5,14 +5,15 @@ use Rattle.std.proofs.lemmas.Int.{ints}
 use Rattle.std.proofs.lemmas.Bool.{and_parts, cond_both, false≢true, or_cases}
 use Rattle.std.specs.List.{list_any}
 use Rattle.domain_api.specs.declared.expr.Expr.{Expr}
-use Rattle.array_segments.specs.Comparing.{at_most, below, ends_behind, equal, meets, reaches, starts_before, starts_by}
+use Rattle.domain_api.specs.Order.{gap_is_at_least}
+use Rattle.array_segments.specs.Comparing.{at_most, below, ends_behind, equal, meets, starts_before, starts_by}
 use Rattle.array_segments.specs.Loading.{first_place, last_place}
 use Rattle.array_segments.specs.Meaning.{AreWorth, Obeys, worth}
 
 le-true : (a b : ℤ) → int_le a b ≡ true → a ≤ℤ b
 le-true a b is = omega (arith, ints)
 
-reaches_worth : (gap : Option ℤ) (x y by : ℤ) → ((k : ℤ) → gap ≡ Some k → (x +ℤ k) ≤ℤ y) → reaches gap by ≡ true → (x +ℤ by) ≤ℤ y
+reaches_worth : (gap : Option ℤ) (x y by : ℤ) → ((k : ℤ) → gap ≡ Some k → (x +ℤ k) ≤ℤ y) → gap_is_at_least gap by ≡ true → (x +ℤ by) ≤ℤ y
 reaches_worth None x y by law is = absurd (false≢true is)
 reaches_worth (Some most) x y by law is = let first : by ≤ℤ most = le-true by most is in let second : (x +ℤ most) ≤ℤ y = law most refl in omega (arith, ints)
 

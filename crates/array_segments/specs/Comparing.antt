@@ -1,20 +1,16 @@
 -- Comparisons of expressions and bounds, as far as gaps show them. A gap of two symbols is a number that may be added
 -- to the first without passing the second.
-use Rattle.std.specs.Prelude.{ℕ, ℤ, pos, ◌+ℤ◌, ◌-ℤ◌, int_le, Bool, false, ◌&&◌, List, Option, None, Some}
+use Rattle.std.specs.Prelude.{ℕ, ℤ, pos, ◌+ℤ◌, ◌-ℤ◌, Bool, ◌&&◌, List, Option}
+use Rattle.domain_api.specs.Order.{gap_is_at_least}
 use Rattle.std.specs.List.{list_any}
 use Rattle.domain_api.specs.declared.expr.Expr.{Expr}
 
--- Tells whether the gap is known to be at least so much.
-abbrev pub reaches : Option ℤ → ℤ → Bool
-reaches None by = false
-reaches (Some gap) by = int_le by gap
-
 -- Tells whether the first expression is shown to be at most the second, and below it.
 abbrev pub at_most : (ℕ → ℕ → Option ℤ) → Expr → Expr → Bool
-at_most gap a b = reaches (gap a.sym b.sym) (a.k -ℤ b.k)
+at_most gap a b = gap_is_at_least (gap a.sym b.sym) (a.k -ℤ b.k)
 
 abbrev pub below : (ℕ → ℕ → Option ℤ) → Expr → Expr → Bool
-below gap a b = reaches (gap a.sym b.sym) ((a.k -ℤ b.k) +ℤ pos 1)
+below gap a b = gap_is_at_least (gap a.sym b.sym) ((a.k -ℤ b.k) +ℤ pos 1)
 
 abbrev pub equal : (ℕ → ℕ → Option ℤ) → Expr → Expr → Bool
 equal gap a b = at_most gap a b && at_most gap b a

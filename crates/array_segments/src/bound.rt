@@ -1,32 +1,22 @@
 //! Expressions and bounds, and how they lie to each other, as far as an order shows.
 
 ghost use Rattle.std.specs.Prelude.{◌≡◌, ◌≤ℤ◌, ◌<ℤ◌, ◌-ℤ◌, ◌*ℤ◌, pos, negsuc};
-ghost use Rattle.array_segments.specs.Comparing.{reaches, at_most, below, equal, starts_by, starts_before, ends_behind, meets};
+ghost use Rattle.array_segments.specs.Comparing.{at_most, below, equal, starts_by, starts_before, ends_behind, meets};
 
-use domain_api::{Expr, Order};
-
-/// Tells whether the gap is known to be at least so much.
-pub(crate) fn reaches(gap: Option<i64>, by: i128) -> bool
-    ensures { result ≡ reaches gap by }
-{
-    match gap {
-        None => false,
-        Some(most) => by <= i128::from(most),
-    }
-}
+use domain_api::{Expr, Order, gap_is_at_least};
 
 /// Tells whether a is shown to be at most b.
 pub(crate) fn is_at_most<O: Order>(order: &O, a: Expr, b: Expr) -> bool
     ensures { result ≡ at_most (O.gap order.now) a b }
 {
-    reaches(order.gap(a.sym, b.sym), i128::from(a.k) - i128::from(b.k))
+    gap_is_at_least(order.gap(a.sym, b.sym), i128::from(a.k) - i128::from(b.k))
 }
 
 /// Tells whether a is shown to be below b.
 pub(crate) fn is_below<O: Order>(order: &O, a: Expr, b: Expr) -> bool
     ensures { result ≡ below (O.gap order.now) a b }
 {
-    reaches(
+    gap_is_at_least(
         order.gap(a.sym, b.sym),
         i128::from(a.k) - i128::from(b.k) + 1,
     )

@@ -9,10 +9,9 @@ ghost use Rattle.array_segments.specs.Meaning.{AreNames, Holds, segments_of, wor
 ghost use Rattle.array_segments.specs.SegmentLists.{Has, HasForm, last_bound};
 ghost use Rattle.array_segments.specs.Segments.{lists_of};
 
-use crate::bound::reaches;
 use crate::growing::SegmentView;
 use crate::segments::Segs;
-use domain_api::{Expr, Order, Values};
+use domain_api::{Expr, Order, Values, gap_is_at_least};
 
 /// The expression of a name, and a number added to it. Without a name, none.
 #[derive(Clone, Copy)]
@@ -93,7 +92,7 @@ fn is_at_most<O: Order>(order: &O, a: Moved, b: Moved) -> bool
     let Some(y) = b.name else {
         return false;
     };
-    reaches(
+    gap_is_at_least(
         order.gap(x.sym, y.sym),
         distance(sum(x.k, a.k), sum(y.k, b.k)),
     )
@@ -109,7 +108,7 @@ fn is_below<O: Order>(order: &O, a: Moved, b: Moved) -> bool
     let Some(y) = b.name else {
         return false;
     };
-    reaches(
+    gap_is_at_least(
         order.gap(x.sym, y.sym),
         distance_above(sum(x.k, a.k), sum(y.k, b.k)),
     )

@@ -14,7 +14,7 @@ pub use expr::Expr;
 pub use flow_state::FlowState;
 pub use lattice::Lattice;
 pub use meter::{Meter, Ticks};
-pub use order::Order;
+pub use order::{Order, gap_is_at_least};
 pub use paired::Paired;
 use std::alloc::AllocError;
 pub use values::Values;

@@ -11,7 +11,7 @@ use crate::inferred::{Inferred, Measure};
 use crate::lists::push_some;
 use abs_state::{AbsState, Var};
 use alias_facts::Nullness;
-use domain_api::{Expr, NoMemory};
+use domain_api::{Expr, NoMemory, gap_is_at_least};
 use number_spans::{Span, less_by, sum_of};
 use std::alloc::Global;
 
@@ -96,16 +96,6 @@ fn measured(state: &AbsState, measure: Measure, i: u16) -> Option<Expr>
     }
 }
 
-/// Returns whether a gap is known to be so much at least.
-fn reaches(gap: Option<i64>, far: i128) -> bool
-    ensures { result ≡ gaps.reaches gap far }
-{
-    match gap {
-        None => false,
-        Some(gap) => far <= i128::from(gap),
-    }
-}
-
 /// Returns whether the first number, and so much more, is known to be at most the second.
 #[tactic(auto, unfolding(number_facts::specs::Gaps::at_most))]
 fn is_below_by(state: &AbsState, a: Expr, more: i64, b: Expr) -> bool
@@ -113,7 +103,7 @@ fn is_below_by(state: &AbsState, a: Expr, more: i64, b: Expr) -> bool
     ensures { ForSome state.now (λ known. result ≡ gaps.at_most known.facts a more b) }
 {
     let far = less_by(sum_of(a.k, more), b.k);
-    reaches(state.gap(a.sym, b.sym), far)
+    gap_is_at_least(state.gap(a.sym, b.sym), far)
 }
 
 /// Returns whether both numbers are there and that is known of them.

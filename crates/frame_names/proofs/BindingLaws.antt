@@ -11,7 +11,8 @@ use Rattle.alias_facts.specs.NullnessOf.{is_null}
 use Rattle.frame_names.specs.declared.reference.Reference.{Reference}
 use Rattle.frame_names.specs.declared.var.Var.{Var}
 use Rattle.frame_names.specs.declared.var.Var.TheVariants as vars
-use Rattle.frame_names.specs.Binding.{FrameBinding, Gaps, References, SlotLists, Symbols, all_filled, both_filled, bound_by, bound_frames, bound_number, bound_reference, expr_of, filled, filled_with, fits, free_slots, is_at_most, is_equal, number_in_slot, reaches, reference_in_slot, with_length, with_lengths, with_number, with_reference, with_references, with_symbols, with_var, with_vars}
+use Rattle.domain_api.specs.Order.{gap_is_at_least}
+use Rattle.frame_names.specs.Binding.{FrameBinding, Gaps, References, SlotLists, Symbols, all_filled, both_filled, bound_by, bound_frames, bound_number, bound_reference, expr_of, filled, filled_with, fits, free_slots, is_at_most, is_equal, number_in_slot, reference_in_slot, with_length, with_lengths, with_number, with_reference, with_references, with_symbols, with_var, with_vars}
 use Rattle.frame_names.specs.BoundMeaning.{AreLengthsBound, HasSameLengths, KeepGaps, NullsAreNull, SaysSame, arrays_bound, bound_worth, numbers_bound, zero_bound}
 use Rattle.frame_names.specs.Frames.{length_at, nullness_at}
 use Rattle.frame_names.specs.Meaning.{a_number, an_address, an_array, said}
@@ -42,7 +43,7 @@ le-true : (a b : ℤ) → int_le a b ≡ true → a ≤ℤ b
 le-true a b is = omega (arith, ints)
 
 le_of : (gap : Gaps) (number : ℕ → ℤ) (e f : Expr) (found : Option ℤ) → gap e.sym f.sym ≡ found → KeepGaps gap number
-    → reaches found (e.k -ℤ f.k) ≡ true → worth number e ≤ℤ worth number f
+    → gap_is_at_least found (e.k -ℤ f.k) ≡ true → worth number e ≤ℤ worth number f
 le_of gap number e f None is keep shown = absurd (true≢false (sym shown))
 le_of gap number e f (Some k) is keep shown =
     let far : (e.k -ℤ f.k) ≤ℤ k = le-true (e.k -ℤ f.k) k shown in

@@ -1,6 +1,7 @@
 -- One frame bound to another: what its symbols are worth, and which references its references are, by the other's.
-use Rattle.std.specs.Prelude.{ℕ, ◌==◌, ℤ, pos, ◌+ℤ◌, ◌-ℤ◌, int_le, Bool, false, ◌&&◌, ◌||◌, List, [], ◌∷◌, get_or, length, drop, set, slice_get, replicate, Option, Some, None, if◌then◌else◌}
+use Rattle.std.specs.Prelude.{ℕ, ◌==◌, ℤ, pos, ◌+ℤ◌, ◌-ℤ◌, Bool, ◌&&◌, ◌||◌, List, [], ◌∷◌, get_or, length, drop, set, slice_get, replicate, Option, Some, None, if◌then◌else◌}
 use Rattle.std.specs.Option.{option_and_then, option_map}
+use Rattle.domain_api.specs.Order.{gap_is_at_least}
 use Rattle.domain_api.specs.declared.expr.Expr.{Expr}
 use Rattle.alias_facts.specs.NullnessOf.{is_null}
 use Rattle.frame_names.specs.Frames.{are_one_place, length_at, nullness_at, place_at}
@@ -15,12 +16,8 @@ use Rattle.frame_names.specs.declared.var.Var.TheVariants as vars
 abbrev pub Gaps : Type 0
 Gaps = ℕ → ℕ → Option ℤ
 
-abbrev pub reaches : Option ℤ → ℤ → Bool
-reaches None by = false
-reaches (Some gap) by = int_le by gap
-
 abbrev pub is_at_most : Gaps → Expr → Expr → Bool
-is_at_most gap e f = reaches (gap e.sym f.sym) (e.k -ℤ f.k)
+is_at_most gap e f = gap_is_at_least (gap e.sym f.sym) (e.k -ℤ f.k)
 
 abbrev pub is_equal : Gaps → Expr → Expr → Bool
 is_equal gap e f = is_at_most gap e f && is_at_most gap f e
@@ -88,11 +85,14 @@ bound_reference a b r q slots = option_map (with_references slots.symbols) (with
 -- Of an address first the reference is bound, then the index.
 abbrev pub with_var : Gaps → List Reference → List Reference → Var → Var → SlotLists → Option SlotLists
 with_var gap a b (vars.Number e) (vars.Number f) slots = bound_number gap e f slots
+with_var gap a b (vars.Number e) _ slots = None
 with_var gap a b (vars.Reference r) (vars.Reference q) slots = bound_reference a b r q slots
+with_var gap a b (vars.Reference r) _ slots = None
 with_var gap a b vars.Text vars.Text slots = Some slots
+with_var gap a b vars.Text _ slots = None
 with_var gap a b (vars.Address r e) (vars.Address q f) slots =
     option_and_then (bound_number gap e f) (bound_reference a b r q slots)
-with_var gap a b _ _ slots = None
+with_var gap a b (vars.Address r e) _ slots = None
 
 abbrev pub with_vars : Gaps → List Reference → List Reference → List Var → List Var → SlotLists
     → Option SlotLists

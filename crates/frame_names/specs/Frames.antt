@@ -34,10 +34,13 @@ references_of vs = filter_map reference_in vs
 
 abbrev pub same_kind : Var → Var → Bool
 same_kind (vars.Number e) (vars.Number f) = true
+same_kind (vars.Number e) _ = false
 same_kind (vars.Reference r) (vars.Reference q) = true
+same_kind (vars.Reference r) _ = false
 same_kind vars.Text vars.Text = true
+same_kind vars.Text _ = false
 same_kind (vars.Address r e) (vars.Address q f) = true
-same_kind _ _ = false
+same_kind (vars.Address r e) _ = false
 
 -- Both lists are as long, and at each index both have a number, a reference, a text or an address.
 abbrev pub AreAlike : List Var → List Var → Type 0

@@ -56,11 +56,14 @@ AgreeOnPlace a b key = (p q : Place) → place_at a key.s ≡ Some p → place_a
 
 -- At each index two references, of their own or of addresses, are of one type, where both have one.
 abbrev pub AreOfOnePlace : List Reference → List Reference → List Var → List Var → Type 0
+AreOfOnePlace a b (vars.Number e ∷ xs) (y ∷ ys) = AreOfOnePlace a b xs ys
 AreOfOnePlace a b (vars.Reference r ∷ xs) (vars.Reference q ∷ ys) =
     ((p o : Place) → place_at a r ≡ Some p → place_at b q ≡ Some o → p ≡ o) × AreOfOnePlace a b xs ys
+AreOfOnePlace a b (vars.Reference r ∷ xs) (y ∷ ys) = AreOfOnePlace a b xs ys
+AreOfOnePlace a b (vars.Text ∷ xs) (y ∷ ys) = AreOfOnePlace a b xs ys
 AreOfOnePlace a b (vars.Address r e ∷ xs) (vars.Address q f ∷ ys) =
     ((p o : Place) → place_at a r ≡ Some p → place_at b q ≡ Some o → p ≡ o) × AreOfOnePlace a b xs ys
-AreOfOnePlace a b (x ∷ xs) (y ∷ ys) = AreOfOnePlace a b xs ys
+AreOfOnePlace a b (vars.Address r e ∷ xs) (y ∷ ys) = AreOfOnePlace a b xs ys
 AreOfOnePlace a b _ _ = Unit {0}
 
 -- Merged references are of the types of the arrays that they are on each side.

@@ -3,11 +3,11 @@
 ghost use Rattle.std.specs.Prelude.{◌≡◌, ◌∷◌, ◌&&◌, ◌+ℤ◌, ◌-ℤ◌, ◌≤ℤ◌, ◌^◌, Some, None, negsuc, pos, drop, length, replicate, IfOk, if◌then◌else◌};
 ghost use Rattle.std.specs.Option.{option_map};
 ghost use Rattle.domain_api.specs.declared.expr.Expr.{Expr};
-ghost use Rattle.frame_names.specs.Binding.{all_filled, bound_by, expr_of, fits, free_slots, is_equal, reaches, with_number, with_reference};
+ghost use Rattle.frame_names.specs.Binding.{all_filled, bound_by, expr_of, fits, free_slots, is_equal, with_number, with_reference};
 
 use crate::reference::{Reference, are_one_place, nullness_of, place_of};
 use alias_facts::Nullness;
-use domain_api::{Expr, NoMemory, Order};
+use domain_api::{Expr, NoMemory, Order, gap_is_at_least};
 use std::alloc::Global;
 use std::marker::Model;
 
@@ -36,16 +36,6 @@ impl Model for Slots {
 }
 
 // ---- expressions
-
-/// Returns whether a gap is known to be so much at least.
-fn reaches(gap: Option<i64>, by: i128) -> bool
-    ensures { result ≡ reaches gap by }
-{
-    match gap {
-        None => false,
-        Some(gap) => by <= i128::from(gap),
-    }
-}
 
 /// The difference of two constants.
 fn difference(k: i64, l: i64) -> i128
@@ -91,8 +81,8 @@ fn is_equal<O: Order>(order: &O, e: Expr, bound: &Bound, f: Expr) -> bool
     ensures { result ≡ is_equal (O.gap order.now) e (expr_of bound.now f) }
 {
     let (above, below) = distances(e.k, constant_of(bound, f));
-    reaches(order.gap(e.sym, bound.value.sym), above)
-        && reaches(order.gap(bound.value.sym, e.sym), below)
+    gap_is_at_least(order.gap(e.sym, bound.value.sym), above)
+        && gap_is_at_least(order.gap(bound.value.sym, e.sym), below)
 }
 
 /// What is bound by an expression.

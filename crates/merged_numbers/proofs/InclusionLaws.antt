@@ -15,7 +15,8 @@ use Rattle.number_spans.proofs.ComparingLaws.{excluded_apart}
 use Rattle.symbolic_values.specs.Worth as exprs
 use Rattle.merged_numbers.specs.declared.term.Term.{Term}
 use Rattle.merged_numbers.specs.Known.{Known, gap, int32s, term, worth}
-use Rattle.merged_numbers.specs.Included.{AreValues, Includes, is_within, all_within, behind_binding, bound_term, follows, included, lacks, lies_above, lies_within, reaches, term_at, value_of, worth_or_zero}
+use Rattle.domain_api.specs.Order.{gap_is_at_least}
+use Rattle.merged_numbers.specs.Included.{AreValues, Includes, is_within, all_within, behind_binding, bound_term, follows, included, lacks, lies_above, lies_within, term_at, value_of, worth_or_zero}
 use Rattle.merged_numbers.specs.Meaning.{AllowsKnown}
 use Rattle.merged_numbers.proofs.TermLaws.{gap_so, int32s_has}
 
@@ -63,7 +64,7 @@ all_allow a number (x ∷ xs) (range ∷ rs) allowed fit all (suc i) inside =
 
 -- ---- bounds
 
-reached : (m n a b k : ℤ) (known : Option ℤ) → ((l : ℤ) → known ≡ Some l → (m +ℤ l) ≤ℤ n) → reaches known ((a +ℤ k) -ℤ b) ≡ true
+reached : (m n a b k : ℤ) (known : Option ℤ) → ((l : ℤ) → known ≡ Some l → (m +ℤ l) ≤ℤ n) → gap_is_at_least known ((a +ℤ k) -ℤ b) ≡ true
     → ((m +ℤ a) +ℤ k) ≤ℤ (n +ℤ b)
 reached m n a b k None so is = absurd cc
 reached m n a b k (Some l) so is = let above = so l refl in let least = le_of ((a +ℤ k) -ℤ b) l is in omega (arith, ints, above, least)

@@ -2,6 +2,7 @@
 use Rattle.std.specs.Prelude.{◌≡◌, ℕ, zero, suc, ℤ, pos, ◌+ℤ◌, ◌-ℤ◌, Bool, true, false, ◌&&◌, int_le, List, [], ◌∷◌, slice_get, Option, Some, None, option_map, FitsSigned}
 use Rattle.std.specs.Int.{w32}
 use Rattle.std.specs.List.{AllByRecursion, list_all}
+use Rattle.domain_api.specs.Order.{gap_is_at_least}
 use Rattle.frame_names.specs.declared.slots.Bound.{Bound}
 use Rattle.interval_domain.specs.Interval.{Interval}
 use Rattle.number_spans.specs.Spans.{excludes, moved_hole}
@@ -48,13 +49,9 @@ abbrev pub term_at : List Bound → ℕ → Option Term
 term_at binding zero = Some (term 0 (pos 0))
 term_at binding (suc s) = option_map bound_term (slice_get binding s)
 
-abbrev pub reaches : Option ℤ → ℤ → Bool
-reaches None n = false
-reaches (Some k) n = int_le n k
-
 -- The second term is known to lie so far above the first.
 abbrev pub lies_above : Known → Option Term → Option Term → ℤ → Bool
-lies_above a (Some x) (Some y) k = reaches (gap a x.sym y.sym) ((x.k +ℤ k) -ℤ y.k)
+lies_above a (Some x) (Some y) k = gap_is_at_least (gap a x.sym y.sym) ((x.k +ℤ k) -ℤ y.k)
 lies_above a _ _ k = false
 
 abbrev pub follows : Known → List Bound → BoundRow → Bool

@@ -4,6 +4,7 @@ ghost use Rattle.std.specs.Prelude.{◌≡◌, ◌+ℤ◌, int_le, true, IfSome,
 ghost use Rattle.std.specs.List.{list_all};
 ghost use Rattle.number_spans.specs.Sizes.{IsWide};
 ghost use Rattle.number_spans.specs.Spans.{moved_hole};
+ghost use Rattle.domain_api.specs.Order.{gap_is_at_least};
 ghost use Rattle.merged_numbers.specs.Known.{gap, known};
 ghost use Rattle.merged_numbers.specs.Meaning.{AreMeasured};
 ghost use Rattle.merged_numbers.specs.Included as rule;
@@ -12,6 +13,7 @@ ghost use Rattle.merged_numbers.specs.Included.{Includes, bound_term, included};
 use crate::measures::apart;
 use crate::side::Side;
 use crate::term::Term;
+use domain_api::gap_is_at_least;
 use frame_names::Bound;
 use interval_domain::Range;
 use number_spans::{Span, sum_of};
@@ -62,16 +64,6 @@ fn lies_within(span: Span, offset: i64, range: &Range) -> bool
         && lacks(span, range.hole(), offset)
 }
 
-/// Returns whether a gap is so much at least.
-fn reaches(gap: Option<i64>, n: i128) -> bool
-    ensures { result ≡ rule.reaches gap n }
-{
-    match gap {
-        None => false,
-        Some(gap) => n <= i128::from(gap),
-    }
-}
-
 /// What a symbol stands for, if it is bound.
 #[tactic(auto, using(crate::proofs::InclusionLaws::terms))]
 fn term_at(binding: &[Bound], symbol: u32) -> Option<Term>
@@ -117,17 +109,17 @@ impl Side<'_> {
     /// Returns whether a stored bound tells that the second of two distinct symbols lies so far above the first.
     #[tactic(auto, using(crate::proofs::StoredLaws::stored_reaches))]
     fn is_stored(&self, s: u32, t: u32, n: i128) -> bool
-        ensures { IsTrue result → rule.reaches (gap (known self.now) s t) n ≡ true }
+        ensures { IsTrue result → gap_is_at_least (gap (known self.now) s t) n ≡ true }
     {
-        s != t && reaches(self.bounds.stored(s, t), n)
+        s != t && gap_is_at_least(self.bounds.stored(s, t), n)
     }
 
     /// Returns whether the second symbol is known to lie so far above the first. A stored bound is looked at first.
     fn lies_above(&self, s: u32, t: u32, n: i128) -> bool
         requires { AreMeasured self.now.spans.now }
-        ensures { result ≡ rule.reaches (gap (known self.now) s t) n }
+        ensures { result ≡ gap_is_at_least (gap (known self.now) s t) n }
     {
-        self.is_stored(s, t, n) || reaches(self.gap(s, t), n)
+        self.is_stored(s, t, n) || gap_is_at_least(self.gap(s, t), n)
     }
 
     /// Returns whether a bound follows.

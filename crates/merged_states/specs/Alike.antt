@@ -9,12 +9,15 @@ use Rattle.state_facts.specs.StateFacts.{StateFacts, State, both_of_same_place, 
 -- which have one type.
 abbrev pub IsLike : StateFacts → StateFacts → Var → Var → Type 0
 IsLike a b (vars.Number e) (vars.Number f) = Unit {0}
+IsLike a b (vars.Number e) _ = ⊥
 IsLike a b (vars.Reference r) (vars.Reference q) =
     both_of_same_place (reference_at a.references r) (reference_at b.references q) ≡ true
+IsLike a b (vars.Reference r) _ = ⊥
 IsLike a b vars.Text vars.Text = Unit {0}
+IsLike a b vars.Text _ = ⊥
 IsLike a b (vars.Address r e) (vars.Address q f) =
     both_of_same_place (reference_at a.references r) (reference_at b.references q) ≡ true
-IsLike a b _ _ = ⊥
+IsLike a b (vars.Address r e) _ = ⊥
 
 abbrev pub AreLike : StateFacts → StateFacts → List Var → List Var → Type 0
 AreLike a b [] [] = Unit {0}

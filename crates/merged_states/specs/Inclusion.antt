@@ -24,11 +24,15 @@ same_expr e f = e.sym == f.sym && int_eq e.k f.k
 -- Two definitions are the same.
 abbrev pub same_def : Def → Def → Bool
 same_def (Eq x y) (Eq z w) = same_expr x z && same_expr y w
+same_def (Eq x y) _ = false
 same_def (Lt x y) (Lt z w) = same_expr x z && same_expr y w
+same_def (Lt x y) _ = false
 same_def (LtUn x y) (LtUn z w) = same_expr x z && same_expr y w
+same_def (LtUn x y) _ = false
 same_def (NullTest r is) (NullTest q also) = r == q && same_flag is also
+same_def (NullTest r is) _ = false
 same_def (Sub x y) (Sub z w) = same_expr x z && same_expr y w
-same_def _ _ = false
+same_def (Sub x y) _ = false
 
 abbrev pub same_defs : Option Def → Option Def → Bool
 same_defs (Some a) (Some b) = same_def a b

@@ -10,7 +10,8 @@ use Rattle.number_spans.specs.declared.span.Span.{Span}
 use Rattle.number_facts.specs.Laws.Allowing.{AllowsNumbers, span_has, gap_allowed}
 use Rattle.number_facts.specs.Ends.{range_of, span_at}
 use Rattle.number_facts.specs.Facts.{Facts, IsNamed, range_at}
-use Rattle.number_facts.specs.Gaps.{gap, reaches, at_most, equal}
+use Rattle.number_facts.specs.Gaps.{gap, at_most, equal}
+use Rattle.domain_api.specs.Order.{gap_is_at_least}
 use Rattle.number_facts.specs.Holds.{AreEndsOf}
 
 moved_apart : (hole : Option ℤ) (n k : ℤ) → hole ≢ Some n → moved_hole hole k ≢ Some (n +ℤ k)
@@ -58,7 +59,7 @@ not_negative facts number e allowed there is = let has = range_has facts number 
 le_true : (m n : ℤ) → int_le m n ≡ true → m ≤ℤ n
 le_true m n e = omega (arith, ints)
 
-reached : (number : ℕ → ℤ) (s t : ℕ) (known : Option ℤ) (n : ℤ) → ((k : ℤ) → known ≡ Some k → (number s +ℤ k) ≤ℤ number t) → reaches known n ≡ true
+reached : (number : ℕ → ℤ) (s t : ℕ) (known : Option ℤ) (n : ℤ) → ((k : ℤ) → known ≡ Some k → (number s +ℤ k) ≤ℤ number t) → gap_is_at_least known n ≡ true
     → (number s +ℤ n) ≤ℤ number t
 reached number s t None n below is = absurd cc
 reached number s t (Some k) n below is = let most = below k refl in let le = le_true n k is in omega (arith, ints, most, le)

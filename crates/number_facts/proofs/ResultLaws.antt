@@ -292,28 +292,3 @@ exact_within op facts a b lo hi first second low high = λ number is_null exact 
     let above = near_below (rule.exact op facts a b).lo exact has.above fits in
     let below = near_above (rule.exact op facts a b).hi exact has.below fits in
     (omega (arith, ints, low, above), omega (arith, ints, high, below))
-
-int32_given : (n : ℤ) → LEAST ≤ℤ n → n ≤ℤ GREATEST → exact n ≡ Ok n
-int32_given n above below = rw (is_within n above below) refl
-  where
-    is_within : (n : ℤ) → LEAST ≤ℤ n → n ≤ℤ GREATEST → (int_le LEAST n && int_le n GREATEST) ≡ true
-    is_within n above below = grind (arith, ints, above, below)
-
--- an exact result that is an int32 is what the operator gives
-exact_given : (op : BinOp) (m n exact : ℤ) → IsExact op m n exact → LEAST ≤ℤ exact → exact ≤ℤ GREATEST
-    → operated op m n ≡ Ok exact
-exact_given op m n k is above below =
-    each_exact (λ o. operated o m n ≡ Ok k) op m n k is
-    (λ sum. rw (← sum) (int32_given k above below))
-    (λ difference. rw (← difference) (int32_given k above below))
-    (λ product. rw (← product) (int32_given k above below))
-
--- Where the ends are int32, the operator does not overflow: it gives its exact result.
-pub no_overflow : (op : BinOp) (facts : Facts) (a b : Expr) (lo hi : ℤ) (number : ℕ → ℤ) (is_null : ℕ → Bool)
-    (exact : ℤ) → AreExactEnds op a b facts lo hi → LEAST ≤ℤ lo → hi ≤ℤ GREATEST → AreNamed facts
-    → Holds facts number is_null → AreInt32 number a b → IsExact op (worth number a) (worth number b) exact
-    → operated op (worth number a) (worth number b) ≡ Ok exact
-no_overflow op facts a b lo hi number is_null exact ends least greatest named holds int32 is =
-    let within = ends number is_null exact named holds int32 is in
-    exact_given op (worth number a) (worth number b) exact is (omega (arith, ints, least, within.0))
-    (omega (arith, ints, greatest, within.1))

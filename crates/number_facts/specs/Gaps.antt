@@ -1,5 +1,6 @@
 -- How symbols and expressions are known to lie to each other.
-use Rattle.std.specs.Prelude.{ℕ, ℤ, pos, ◌+ℤ◌, ◌-ℤ◌, Bool, false, ◌&&◌, int_le, Option, Some, None, if◌then◌else◌}
+use Rattle.std.specs.Prelude.{ℕ, ℤ, pos, ◌+ℤ◌, ◌-ℤ◌, Bool, ◌&&◌, Option, if◌then◌else◌}
+use Rattle.domain_api.specs.Order.{gap_is_at_least}
 use Rattle.domain_api.specs.declared.expr.Expr.{Expr}
 use Rattle.pentagon_domain.specs.Gaps as by_bounds
 use Rattle.number_facts.specs.Facts.{Facts, has}
@@ -12,14 +13,9 @@ gap facts s t =
     if has facts s && has facts t then by_bounds.gap_with facts.bounds ((span_at facts t).lo -ℤ (span_at facts s).hi) s t
     else by_bounds.gap facts.bounds s t
 
--- It is known to be so much at least.
-abbrev pub reaches : Option ℤ → ℤ → Bool
-reaches None n = false
-reaches (Some k) n = int_le n k
-
 -- The first expression and a number more are known to be at most the second.
 unfoldable pub at_most : Facts → Expr → ℤ → Expr → Bool
-at_most facts a more b = reaches (gap facts a.sym b.sym) ((a.k +ℤ more) -ℤ b.k)
+at_most facts a more b = gap_is_at_least (gap facts a.sym b.sym) ((a.k +ℤ more) -ℤ b.k)
 
 -- The first is known to be less than the second, or equal to it.
 abbrev pub less : Facts → Expr → Expr → Bool

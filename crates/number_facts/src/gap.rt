@@ -4,7 +4,7 @@ ghost use Rattle.std.specs.Prelude.{◌≡◌, ◌-ℤ◌, ◌+ℤ◌, ◌≤ℤ
 ghost use Rattle.number_spans.specs.Sizes.{IsWide, IsBounded};
 ghost use Rattle.number_facts.specs.Sizes.{IsFar};
 ghost use Rattle.number_facts.specs.Ends.{range_of, span_at};
-ghost use Rattle.number_facts.specs.Gaps.{at_most, equal, gap, reaches};
+ghost use Rattle.number_facts.specs.Gaps.{at_most, equal, gap};
 
 use crate::numbers::Numbers;
 use domain_api::{Expr, Order};

@@ -82,7 +82,12 @@ symbol_told facts comparisons.Eq a b = with_flag false (symbol_with_zero a b)
 symbol_told facts comparisons.NeUn a b = with_flag true (symbol_with_zero a b)
 symbol_told facts comparisons.LtUn a b = with_flag true (symbol_above_zero facts a b)
 symbol_told facts comparisons.GtUn a b = with_flag true (symbol_above_zero facts b a)
-symbol_told facts _ a b = None
+symbol_told facts comparisons.Lt a b = None
+symbol_told facts comparisons.Gt a b = None
+symbol_told facts comparisons.Le a b = None
+symbol_told facts comparisons.Ge a b = None
+symbol_told facts comparisons.LeUn a b = None
+symbol_told facts comparisons.GeUn a b = None
 
 abbrev pub definition_at : List (ℕ × Def) → ℕ → Option Def
 definition_at [] symbol = None
@@ -136,10 +141,21 @@ AreNamedTests known (Some test) = IsNamedTest known test
 
 abbrev pub is_equality : CmpOp → Bool
 is_equality comparisons.Eq = true
-is_equality _ = false
+is_equality comparisons.NeUn = false
+is_equality comparisons.Lt = false
+is_equality comparisons.LtUn = false
+is_equality comparisons.Gt = false
+is_equality comparisons.GtUn = false
+is_equality comparisons.Le = false
+is_equality comparisons.LeUn = false
+is_equality comparisons.Ge = false
+is_equality comparisons.GeUn = false
 
 -- A comparison holds, or does not. At most eight definitions are followed, one after another.
 unfoldable pub assumed : CmpOp → Var → Var → Bool → StateFacts → Option StateFacts
 assumed op (vars.Number a) (vars.Number b) holds known = with_steps 9 (Some (Compares op a b holds)) known
+assumed op (vars.Number a) _ holds known = Some known
 assumed op (vars.Reference r) (vars.Reference q) holds known = with_same r q (same_flag (is_equality op) holds) known
-assumed op _ _ holds known = Some known
+assumed op (vars.Reference r) _ holds known = Some known
+assumed op vars.Text _ holds known = Some known
+assumed op (vars.Address r e) _ holds known = Some known

@@ -90,6 +90,9 @@ is_equality _ = false
 -- The truth of a comparison is on top. Of two references it is whether they are the same, or are not.
 unfoldable pub with_comparison : BinOp → Var → Var → StateFacts → Option StateFacts
 with_comparison op (vars.Number a) (vars.Number b) known = Some (with_truth op a b known)
+with_comparison op (vars.Number a) _ known = Some known
 with_comparison op (vars.Reference r) (vars.Reference q) known =
     with_tested r q (is_equality op) known (null_tested r q)
-with_comparison op _ _ known = Some known
+with_comparison op (vars.Reference r) _ known = Some known
+with_comparison op vars.Text _ known = Some known
+with_comparison op (vars.Address r e) _ known = Some known

@@ -10,7 +10,7 @@ use Rattle.number_facts.specs.Facts.{AreNarrow}
 use Rattle.number_facts.specs.Holds.{AreNamed}
 use Rattle.symbolic_values.specs.Pairing.{IsNear}
 use Rattle.symbolic_values.specs.declared.def.Def.{Def}
-use Rattle.symbolic_values.specs.declared.def.Def.TheVariants.{NullTest}
+use Rattle.symbolic_values.specs.declared.def.Def.TheVariants.{Eq, Lt, LtUn, NullTest, Sub}
 use Rattle.state_facts.specs.StateFacts.{StateFacts}
 use Rattle.frame_names.specs.declared.reference.Reference.{Reference}
 use Rattle.frame_names.specs.declared.var.Var.{Var}
@@ -29,9 +29,11 @@ IsVar symbols references vars.Text = Unit {0}
 IsVar symbols references (vars.Address r e) = (r ≤ references) × IsNumber symbols e
 
 abbrev pub IsArrayPlace : Place → Type 0
+IsArrayPlace places.Void = ⊥
+IsArrayPlace places.Bool = ⊥
+IsArrayPlace places.Int = ⊥
 IsArrayPlace places.Bools = Unit {0}
 IsArrayPlace places.Ints = Unit {0}
-IsArrayPlace _ = ⊥
 
 pub record IsReference (symbols : ℕ) (r : Reference) : Type 0 where
   pub place : IsArrayPlace r.place
@@ -39,8 +41,11 @@ pub record IsReference (symbols : ℕ) (r : Reference) : Type 0 where
 
 -- The reference that a null test names is there.
 abbrev pub TestsOf : ℕ → Def → Type 0
+TestsOf references (Eq a b) = Unit {0}
+TestsOf references (Lt a b) = Unit {0}
+TestsOf references (LtUn a b) = Unit {0}
 TestsOf references (NullTest r is) = r ≤ references
-TestsOf references _ = Unit {0}
+TestsOf references (Sub a b) = Unit {0}
 
 -- The symbols that are defined rise, so that each is defined once at most.
 abbrev pub SymbolsRise : List (ℕ × Def) → Type 0

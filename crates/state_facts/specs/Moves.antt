@@ -53,7 +53,10 @@ unfoldable pub placed : Facts → Expr → Place → Option Made
 placed facts e places.Bool =
     if is_byte (range_of facts e) then Some (record { expr = e; facts = facts })
     else fresh facts (pos 0) (pos 255) None []
-placed facts e _ = Some (record { expr = e; facts = facts })
+placed facts e places.Void = Some (record { expr = e; facts = facts })
+placed facts e places.Int = Some (record { expr = e; facts = facts })
+placed facts e places.Bools = Some (record { expr = e; facts = facts })
+placed facts e places.Ints = Some (record { expr = e; facts = facts })
 
 -- A number that was made is what a variable has.
 abbrev pub in_variable : StateFacts → ℕ → Made → StateFacts
