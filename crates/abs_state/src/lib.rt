@@ -2,6 +2,7 @@
 #![tactic(auto)]
 
 mod equality;
+mod invariant;
 mod lattice;
 mod likeness;
 mod obligations;
@@ -11,6 +12,7 @@ mod steps;
 mod unknown_values;
 
 pub use array_contents::{Contents, Segs};
+pub use invariant::Invariant;
 pub use parts::Parts;
 pub use state::AbsState;
 pub use state_facts::{Reference, Var};

@@ -17,11 +17,11 @@ use crate::following::{ranges_at, shown_of};
 use crate::inferred::Inferred;
 use crate::returns::returns_of;
 use crate::rows::rows_of;
-use abs_state::AbsState;
+use abs_state::{AbsState, Invariant};
 use cil_model::{Clause, MAX_CLAUSES, Unit};
 use domain_api::NoMemory;
 use std::alloc::Global;
-use transfer_rules::{Invariant, inductive};
+use transfer_rules::inductive;
 use unit_flow::UnitFlow;
 
 /// Appends what follows of a row at each return, where there is room for it.

@@ -6,11 +6,12 @@ use crate::flows;
 use crate::flows::read_number;
 use crate::units::{KnownUnit, known_unit};
 use crate::verdicts::verdicts_text;
+use abs_state::Invariant;
 use invariant_checker::judge;
 use rule_text::{Failure, Line, Rules, check, check_yes};
 use state_text::state;
 use std::alloc::Global;
-use transfer_rules::{Invariant, has_shape, inductive};
+use transfer_rules::{has_shape, inductive};
 use unit_flow::UnitFlow;
 
 /// The unit and the states of a case that is run.

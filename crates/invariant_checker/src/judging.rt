@@ -14,14 +14,14 @@ ghost use Rattle.invariant_checker.specs.Verdicts as rule;
 ghost use Rattle.invariant_checker.specs.Verdicts.{CanJudge};
 
 use crate::verdict::Verdict;
-use abs_state::AbsState;
+use abs_state::{AbsState, Invariant};
 use cil_model::{Instr, Obligation, Unit};
 use domain_api::NoMemory;
 use obligation_prover::{
     Tested, avoid, clause_obligation, clauses_shown, faults_of, obligations, rules_out, tested_by,
 };
 use std::alloc::Global;
-use transfer_rules::{Invariant, inductive, post};
+use transfer_rules::{inductive, post};
 use unit_flow::UnitFlow;
 
 /// Appends a verdict for each own fault of an instruction. Each is judged where those before it are assumed not to have

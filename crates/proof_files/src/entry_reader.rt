@@ -7,13 +7,13 @@ ghost use Rattle.proof_files.specs.Held.{told};
 ghost use Rattle.proof_files.specs.Steps.{AreStatesOf, IsEntryOf, IsUnitOf};
 
 use crate::proof_entry::ProofEntry;
-use abs_state::AbsState;
+use abs_state::{AbsState, Invariant};
 use cc_base::{NoMemory, Refusal};
 use invariant_reader::read_invariant_text;
 use method_unit::{read_unit, unit_bytes};
 use stack_typer::TypedUnit;
 use std::alloc::{AllocError, Global};
-use transfer_rules::{Invariant, has_shape};
+use transfer_rules::has_shape;
 use unit_flow::UnitFlow;
 
 /// Returns whether two byte strings are the same.

@@ -1,7 +1,7 @@
 //! What a proof file has of a unit.
 
+use abs_state::Invariant;
 use cil_model::Unit;
-use transfer_rules::Invariant;
 
 /// A unit, and its invariant.
 #[derive(Drop)]

@@ -11,7 +11,6 @@ mod choices;
 mod entry;
 mod forms;
 mod induction;
-mod invariant;
 mod moves;
 mod operands;
 mod operators;
@@ -22,7 +21,6 @@ mod walks;
 
 pub use entry::entry_state;
 pub use induction::{has_shape, inductive};
-pub use invariant::Invariant;
 pub use rules::{along, post};
 pub use unit_state::UnitState;
 pub use unknown_states::unknown;

@@ -11,7 +11,7 @@ use Rattle.proof_files.specs.Held.{entries_told, told}
 use Rattle.proof_files.specs.Proofs.{AreEntriesBehind, Entry, IsNewEntry, is_among, key_of, keys_of}
 use Rattle.proof_files.specs.declared.proof_entry.ProofEntry.{ProofEntry}
 use Rattle.state_facts.specs.StateFacts.{State}
-use Rattle.transfer_rules.specs.declared.invariant.Invariant.{Invariant}
+use Rattle.abs_state.specs.declared.invariant.Invariant.{Invariant}
 use Rattle.unit_form.specs.Spelling.{unit_bytes}
 use Rattle.unit_verdicts.specs.Keys.{IsKey}
 use Rattle.unit_verdicts.specs.ProvedUnits.{AreKeyed, StatedUnit, unit_stated, units_stated, states_for}

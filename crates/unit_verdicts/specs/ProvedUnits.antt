@@ -7,7 +7,7 @@ use Rattle.std.specs.declared.vec.Vec.{Vec}
 use Rattle.method_unit.specs.UnitFile.{unit_of}
 use Rattle.proof_files.specs.Proofs.{Entry}
 use Rattle.state_facts.specs.StateFacts.{State}
-use Rattle.transfer_rules.specs.declared.invariant.Invariant.{Invariant}
+use Rattle.abs_state.specs.declared.invariant.Invariant.{Invariant}
 use Rattle.unit_form.specs.Spelling.{unit_bytes}
 use Rattle.unit_verdicts.specs.Keys.{IsKey}
 

@@ -18,12 +18,12 @@ ghost use Rattle.widening_engine.specs.Limits.{limit_of};
 
 use crate::proved_units::ProvedUnits;
 use crate::unit_verdicts::{UnitVerdicts, judge_under};
+use abs_state::Invariant;
 use cil_model::Unit;
 use invariant_codec::{read_states, states_bytes};
 use result_cache::Cache;
 use stack_typer::TypedUnit;
 use std::alloc::{AllocError, Global};
-use transfer_rules::Invariant;
 use unit_flow::UnitFlow;
 use widening_engine::Finder;
 

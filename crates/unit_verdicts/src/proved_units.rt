@@ -8,12 +8,12 @@ ghost use Rattle.proof_files.specs.Proofs.{AreEntries, is_among, keys_of};
 ghost use Rattle.unit_form.specs.Spelling.{unit_bytes};
 ghost use Rattle.unit_verdicts.specs.ProvedUnits.{states_for};
 
+use abs_state::Invariant;
 use indexmap::IndexMap;
 use method_unit::unit_bytes;
 use proof_files::ProofEntry;
 use std::alloc::{AllocError, Global};
 use std::marker::Model;
-use transfer_rules::Invariant;
 
 /// Invariants, each under the whole bytes of its unit. Contracts see the units with their states, in the order in which
 /// they came.

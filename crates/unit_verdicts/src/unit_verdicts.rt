@@ -5,10 +5,11 @@ ghost use Rattle.unit_flow.specs.Flow.{IsLawful};
 ghost use Rattle.unit_verdicts.specs.Picks.{states_text};
 ghost use Rattle.unit_verdicts.specs.Verdicts.{AreVerdictsUnder};
 
+use abs_state::Invariant;
 use invariant_checker::{Verdict, judge};
 use invariant_text::invariant_text;
 use std::alloc::{AllocError, Global};
-use transfer_rules::{Invariant, has_shape};
+use transfer_rules::has_shape;
 use unit_flow::UnitFlow;
 
 /// The verdicts on a unit.

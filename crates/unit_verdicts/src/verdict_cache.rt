@@ -28,6 +28,7 @@ use crate::proof_left::proof_text;
 use crate::proved_units::ProvedUnits;
 use crate::source::Source;
 use crate::unit_verdicts::UnitVerdicts;
+use abs_state::Invariant;
 use indexmap::IndexMap;
 use method_unit::unit_bytes;
 use proof_files::ProofEntry;
@@ -35,7 +36,6 @@ use result_cache::{Cache, Entries, cache_bytes};
 use stack_typer::TypedUnit;
 use std::alloc::{AllocError, Global};
 use std::marker::Model;
-use transfer_rules::Invariant;
 use unit_flow::UnitFlow;
 use widening_engine::Finder;
 

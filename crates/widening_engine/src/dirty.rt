@@ -8,9 +8,9 @@ ghost use Rattle.widening_engine.specs.Limits.{limit_of, unit_flow, unit_states}
 ghost use Rattle.widening_engine.specs.Work.{after_ticks, work};
 
 use crate::finder::{Finder, find_invariant};
+use abs_state::Invariant;
 use domain_api::{NoMemory, Ticks};
 use std::alloc::Global;
-use transfer_rules::Invariant;
 use unit_flow::UnitFlow;
 
 /// The finder that cccheck uses: the state along an edge is computed again only where that of its source has changed.

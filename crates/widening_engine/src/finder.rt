@@ -9,10 +9,10 @@ ghost use Rattle.widening_engine.specs.Rounds.{limit};
 ghost use Rattle.widening_engine.specs.Work.{HasCountedAtMostBy, HasCountedBy, work};
 
 use crate::keeping::kept_limit;
-use abs_state::AbsState;
+use abs_state::{AbsState, Invariant};
 use domain_api::{NoMemory, Ticks};
 use std::alloc::Global;
-use transfer_rules::{Invariant, UnitState};
+use transfer_rules::UnitState;
 use unit_flow::UnitFlow;
 use unit_form::unit_bytes;
 

@@ -8,9 +8,9 @@ ghost use Rattle.widening_engine.specs.Limits.{limit_of, unit_flow};
 ghost use Rattle.widening_engine.specs.Work.{after_ticks, rounds};
 
 use crate::finder::{Finder, find_invariant};
+use abs_state::Invariant;
 use domain_api::{NoMemory, Ticks};
 use std::alloc::Global;
-use transfer_rules::Invariant;
 use unit_flow::UnitFlow;
 
 /// A finder that computes every edge in each round.

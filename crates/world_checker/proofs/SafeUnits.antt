@@ -13,7 +13,7 @@ use Rattle.invariant_checker.proofs.Covering.{each_told}
 use Rattle.invariant_checker.proofs.Soundness.{proved_is_safe}
 use Rattle.obligation_prover.specs.Obligations.{obligations_of}
 use Rattle.safe_worlds.proofs.SafeWorlds.{world_is_safe}
-use Rattle.transfer_rules.specs.declared.invariant.Invariant.{Invariant}
+use Rattle.abs_state.specs.declared.invariant.Invariant.{Invariant}
 use Rattle.unit_flow.specs.Flow.{IsLawful}
 use Rattle.unit_flow.specs.declared.unit_flow.UnitFlow.{UnitFlow}
 use Rattle.world_checker.specs.WorldVerdicts.{MakesSafe, all_proved, verdicts_of_world}

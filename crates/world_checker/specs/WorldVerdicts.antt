@@ -7,7 +7,7 @@ use Rattle.invariant_checker.specs.Counts as unit
 use Rattle.invariant_checker.specs.Verdicts.{verdicts}
 use Rattle.invariant_checker.specs.declared.verdict.Verdict.{Verdict}
 use Rattle.safe_worlds.specs.Worlds.{AreSafe}
-use Rattle.transfer_rules.specs.declared.invariant.Invariant.{Invariant}
+use Rattle.abs_state.specs.declared.invariant.Invariant.{Invariant}
 use Rattle.unit_flow.specs.declared.unit_flow.UnitFlow.{UnitFlow}
 
 -- The verdicts on each unit under the invariant of its place.

@@ -6,11 +6,11 @@ ghost use Rattle.obligation_prover.specs.Obligations.{obligations_of};
 ghost use Rattle.unit_flow.specs.Flow.{IsLawful};
 ghost use Rattle.world_checker.specs.WorldVerdicts.{MakesSafe, all_proved, verdicts_of_world};
 
+use abs_state::Invariant;
 use cil_model::List;
 use domain_api::NoMemory;
 use invariant_checker::{Verdict, judge};
 use std::alloc::Global;
-use transfer_rules::Invariant;
 use unit_flow::UnitFlow;
 
 /// The verdicts on each unit, under the invariant of its place.

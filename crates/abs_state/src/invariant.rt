@@ -1,6 +1,6 @@
 //! What is held of a unit.
 
-use abs_state::AbsState;
+use crate::state::AbsState;
 
 /// What is held at the start of each block of a unit, a state for each block in their order.
 #[derive(Drop)]
