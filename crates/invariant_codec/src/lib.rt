@@ -22,5 +22,5 @@ mod variables;
 
 pub use checking::{check_invariant, fault_at};
 pub use fault::{InvFault, InvRefusal};
-pub use put_states::states_bytes;
-pub use states::read_states;
+pub use put_states::invariant_bytes;
+pub use states::read_invariant;

@@ -14,7 +14,7 @@ use crate::constants::read_constants;
 use crate::put_arrays::put_references;
 use crate::put_numbers::{put_byte, put_ranges, put_u16};
 use crate::put_symbols::{put_definitions, put_pairs, put_rows, put_variables};
-use abs_state::{AbsState, Parts};
+use abs_state::{AbsState, Invariant, Parts};
 use domain_api::NoMemory;
 use std::alloc::Global;
 
@@ -105,22 +105,23 @@ fn see_invariant(bytes: &[u8], states: &[AbsState])
     let _ = bytes.len();
 }
 
-/// The bytes of states, as those of an invariant.
+/// The bytes of an invariant.
 ///
 /// # Errors
 ///
 /// Want of memory.
 ///
 /// Cost: linear in what is known, but for what a state sorts of its pairs.
-pub fn states_bytes(alloc: Global, states: &[AbsState]) -> Result<Vec<u8>, NoMemory>
-    requires small { AreSmall states.now }
-    ensures bytes { IfOk result (λ bytes. bytes.items ≡ states_bytes states.now) }
-    // Each count and each constant fits its field, so that the bytes are those of no other states.
-    ensures spellable { IfOk result (λ _. AreSpellable states.now) }
+pub fn invariant_bytes(alloc: Global, invariant: &Invariant) -> Result<Vec<u8>, NoMemory>
+    requires small { AreSmall invariant.now.states.items }
+    ensures bytes { IfOk result (λ bytes. bytes.items ≡ states_bytes invariant.now.states.items) }
+    // Each count and each constant fits its field, so that the bytes are those of no other invariant.
+    ensures spellable { IfOk result (λ _. AreSpellable invariant.now.states.items) }
     ensures invariant { IfOk result (λ bytes. IsInvariant bytes.items) }
     // The states are read of them again.
-    ensures again { IfOk result (λ bytes. (states_file bytes.items).value ≡ map parts_of states.now) }
+    ensures again { IfOk result (λ bytes. (states_file bytes.items).value ≡ map parts_of invariant.now.states.items) }
 {
+    let states = invariant.states.as_slice();
     let bytes = written(alloc, states)?;
     see_invariant(&bytes, states);
     Ok(bytes)

@@ -18,7 +18,7 @@ use crate::pairs::read_pairs;
 use crate::ranges::read_ranges;
 use crate::rows::read_rows;
 use crate::variables::read_variables;
-use abs_state::{AbsState, Parts};
+use abs_state::{AbsState, Invariant, Parts};
 use std::alloc::Global;
 
 /// What is known at this offset of a state in which something is reached, and the offset after it.
@@ -124,7 +124,18 @@ fn read_first(alloc: Global, bytes: &[u8]) -> Result<Vec<AbsState>, InvRefusal>
     Ok(states)
 }
 
-/// The states whose bytes these are.
+/// The invariant of a whole file, or its first fault.
+#[tactic(auto, using(cc_base::proofs::TestLemmas::carried))]
+fn read_whole(alloc: Global, bytes: &[u8]) -> Result<Invariant, InvRefusal>
+    requires short { length bytes.now ≤ 2147483647 }
+    ensures { JudgesOrNoMemory result (first_of (states_file bytes.now).tests)
+        (λ invariant. map parts_of invariant.states.items ≡ (states_file bytes.now).value) }
+{
+    let states = read_first(alloc, bytes)?;
+    Ok(Invariant { states })
+}
+
+/// The invariant whose bytes these are.
 ///
 /// # Errors
 ///
@@ -133,16 +144,16 @@ fn read_first(alloc: Global, bytes: &[u8]) -> Result<Vec<AbsState>, InvRefusal>
 ///
 /// Cost: linear in the number of bytes, but for what a state sorts of its bounds and pairs. A count takes no memory
 /// before the items that it counts are there.
-pub fn read_states(alloc: Global, bytes: &[u8]) -> Result<Vec<AbsState>, InvRefusal>
+pub fn read_invariant(alloc: Global, bytes: &[u8]) -> Result<Invariant, InvRefusal>
     requires short { length bytes.now ≤ 2147483647 }
-    // They are read where no test of the list fails; a fault is that of the first test that does.
+    // It is read where no test of the list fails; a fault is that of the first test that does.
     ensures judged { JudgesOrNoMemory result (first_of (states_file bytes.now).tests)
-        (λ states. map parts_of states.items ≡ (states_file bytes.now).value) }
+        (λ invariant. map parts_of invariant.states.items ≡ (states_file bytes.now).value) }
     // What is read is spelled by the bytes.
-    ensures spelled { IfOk result (λ read. (states_bytes read.items ≡ bytes.now) × AreSpellable read.items) }
-    // Where the bytes spell states, these are read, unless memory runs out.
+    ensures spelled { IfOk result (λ read. (states_bytes read.states.items ≡ bytes.now) × AreSpellable read.states.items) }
+    // Where the bytes spell an invariant, it is read, unless memory runs out.
     ensures only { (spelled : List State) → AreSpellable spelled → states_bytes spelled ≡ bytes.now → GivesOnly result
-        (λ read. read.items ≡ spelled) }
+        (λ read. read.states.items ≡ spelled) }
 {
-    read_first(alloc, bytes)
+    read_whole(alloc, bytes)
 }

@@ -2,10 +2,10 @@
 
 ghost use Rattle.std.specs.Prelude.{◌≤◌, length, IfOk};
 
-use abs_state::AbsState;
+use abs_state::{AbsState, Invariant};
 use case_reader::bytes_of_hex;
 use cc_base::{Refusal, put_hex};
-use invariant_codec::{InvFault, read_states, states_bytes};
+use invariant_codec::{InvFault, invariant_bytes, read_invariant};
 use rule_text::{Failure, asked, check, check_yes};
 use std::alloc::{AllocError, Global};
 
@@ -40,9 +40,9 @@ fn fault_text(alloc: Global, fault: InvFault) -> Result<Vec<u8>, AllocError> {
 fn reading(alloc: Global, bytes: &[u8]) -> Result<Vec<u8>, AllocError>
     requires short { length bytes.now ≤ 65536 }
 {
-    match read_states(alloc, bytes) {
-        Ok(states) => {
-            let again = states_bytes(alloc, &states)?;
+    match read_invariant(alloc, bytes) {
+        Ok(invariant) => {
+            let again = invariant_bytes(alloc, &invariant)?;
             let is_same = again.as_slice() == bytes;
             Vec::from_slice(alloc, if is_same { b"ok" } else { b"other bytes" })
         }
@@ -61,12 +61,12 @@ pub fn test_reading(alloc: Global, argument: &str) -> Result<(), Failure> {
     }
 }
 
-/// The states that bytes spell, if they spell any.
-fn states_told(alloc: Global, bytes: &[u8]) -> Result<Option<Vec<AbsState>>, AllocError>
+/// The invariant that bytes spell, if they spell any.
+fn invariant_told(alloc: Global, bytes: &[u8]) -> Result<Option<Invariant>, AllocError>
     requires short { length bytes.now ≤ 65536 }
 {
-    match read_states(alloc, bytes) {
-        Ok(states) => Ok(Some(states)),
+    match read_invariant(alloc, bytes) {
+        Ok(invariant) => Ok(Some(invariant)),
         Err(Refusal::Bad(_)) => Ok(None),
         Err(Refusal::NoMemory) => Err(AllocError),
     }
@@ -91,8 +91,8 @@ fn are_same(states: &[AbsState], others: &[AbsState]) -> bool {
 /// `bytes HEX`: the bytes of these states: they are read of them, and what is read is written so.
 pub fn test_bytes(alloc: Global, states: &[AbsState], hex: &str) -> Result<(), Failure> {
     let told = told_bytes(alloc, hex)?;
-    let is_read = match states_told(alloc, &told)? {
-        Some(read) => are_same(&read, states),
+    let is_read = match invariant_told(alloc, &told)? {
+        Some(read) => are_same(&read.states, states),
         None => false,
     };
     let found = reading(alloc, &told)?;

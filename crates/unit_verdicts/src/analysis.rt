@@ -20,7 +20,7 @@ use crate::proved_units::ProvedUnits;
 use crate::unit_verdicts::{UnitVerdicts, judge_under};
 use abs_state::Invariant;
 use cil_model::Unit;
-use invariant_codec::{read_states, states_bytes};
+use invariant_codec::{invariant_bytes, read_invariant};
 use result_cache::Cache;
 use stack_typer::TypedUnit;
 use std::alloc::{AllocError, Global};
@@ -85,7 +85,7 @@ fn bytes_kept(alloc: Global, invariant: &Invariant, keeps: bool) -> Result<Vec<u
     ensures { IfOk result (λ bytes. keeps ≡ true → AreBytesOf invariant.now.states.items bytes.items) }
 {
     if keeps {
-        states_bytes(alloc, &invariant.states)
+        invariant_bytes(alloc, invariant)
     } else {
         Ok(Vec::new(alloc))
     }
@@ -142,14 +142,14 @@ pub fn readable(bytes: &[u8]) -> Result<&[u8], AllocError>
 }
 
 /// The invariant that these bytes spell.
-pub fn read_invariant(alloc: Global, bytes: &[u8]) -> Result<Invariant, AllocError>
+pub fn invariant_in(alloc: Global, bytes: &[u8]) -> Result<Invariant, AllocError>
     requires short { length bytes.now ≤ 2147483647 }
     requires invariant { IsInvariant bytes.now }
     ensures value { IfOk result (λ invariant. invariant.states.items ≡ states_in bytes.now) }
     ensures spellable { IfOk result (λ invariant. AreSpellable invariant.states.items) }
 {
-    match read_states(alloc, bytes) {
-        Ok(states) => Ok(Invariant { states }),
+    match read_invariant(alloc, bytes) {
+        Ok(invariant) => Ok(invariant),
         // Memory ran out, since the bytes have no fault.
         Err(_) => Err(AllocError),
     }
@@ -167,7 +167,7 @@ fn judge_held(
     requires invariant { IsInvariant bytes.now }
     ensures { IfOk result (λ unit. AreVerdictsUnder show code.now (states_in bytes.now) unit.found) }
 {
-    let invariant = read_invariant(alloc, bytes)?;
+    let invariant = invariant_in(alloc, bytes)?;
     judge_stated(alloc, code, show, &invariant)
 }
 

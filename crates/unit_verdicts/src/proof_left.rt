@@ -11,7 +11,7 @@ ghost use Rattle.result_cache.specs.Entries.{AreEntries};
 ghost use Rattle.unit_flow.specs.FlowOf.{flow_of};
 ghost use Rattle.unit_verdicts.specs.ProofLeft.{spelled_entries, spelled_entry};
 
-use crate::analysis::{find_flow, read_invariant, readable};
+use crate::analysis::{find_flow, invariant_in, readable};
 use method_unit::read_unit;
 use proof_files::ProofText;
 use result_cache::Entries;
@@ -44,7 +44,7 @@ fn add_unit(
     ensures entry { OnOk result (AllByRecursion IsEntry (option_to_list (spelled_entry (key.now, invariant.now)))) }
 {
     let code = read_flow(alloc, key)?;
-    let invariant = read_invariant(alloc, readable(invariant)?)?;
+    let invariant = invariant_in(alloc, readable(invariant)?)?;
     if !has_shape(&code, &invariant.states) {
         return Ok(());
     }

@@ -23,7 +23,7 @@ ghost use Rattle.unit_verdicts.specs.VerdictCache.{IsCached, manner_of, proof_un
 ghost use Rattle.unit_verdicts.specs.Verdicts.{AreVerdictsOf};
 ghost use Rattle.unit_verdicts.specs.declared.source.Source.TheVariants.{Cache as OfCache};
 
-use crate::analysis::{CachedUnit, JudgedUnit, PickedUnit, find_flow, read_invariant, readable};
+use crate::analysis::{CachedUnit, JudgedUnit, PickedUnit, find_flow, invariant_in, readable};
 use crate::proof_left::proof_text;
 use crate::proved_units::ProvedUnits;
 use crate::source::Source;
@@ -242,7 +242,7 @@ impl VerdictCache {
         ensures { IfOk result (λ invariant. invariant.states.items ≡ pick_from self.now.held (unit_of key.now)) }
     {
         let bytes = self.held.held_or_own(key, &unit.invariant);
-        read_invariant(alloc, readable(bytes)?)
+        invariant_in(alloc, readable(bytes)?)
     }
 
     /// The same by the bytes alone, if the unit was judged.
