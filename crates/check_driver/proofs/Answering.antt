@@ -334,8 +334,5 @@ no_command_known words met r e = rw (← e) tt
 pub no_command_files : (words : List (List ℕ)) → None ≡ command_of words → file_names words ≡ []
 no_command_files words e = rw (← e) refl
 
-pub no_command_proof : (words : List (List ℕ)) → None ≡ command_of words → proof_name words ≡ None
-no_command_proof words e = rw (← e) refl
-
 pub no_command_cache : (words : List (List ℕ)) → None ≡ command_of words → cache_name words ≡ None
 no_command_cache words e = rw (← e) refl

@@ -92,17 +92,6 @@ more_begun manner name entries files old mid new known whole later = record {
   prefix = AppendsPrefix-after old mid new (report_text name manner entries) (file_reports manner (take later.count files)) whole later.prefix;
 }
 
--- ---- the status
-
-pub greater_is : (first others : Bool) (a b : ℕ) → a ≡ (if first then 0 else 1) → b ≡ (if others then 0 else 1) → max a b ≡ (if first && others then 0 else 1)
-greater_is first others a b is other = ap (λ (n : ℕ). max n b) is ∙ ap (max (if first then 0 else 1)) other ∙ by first others
-  where
-    by : (first others : Bool) → max (if first then 0 else 1) (if others then 0 else 1) ≡ (if first && others then 0 else 1)
-    by true true = refl
-    by true false = refl
-    by false true = refl
-    by false false = refl
-
 -- ---- the files
 
 pub no_index : (indexes : List ℕ) → length indexes < 1 → indexes ≡ []

@@ -391,9 +391,11 @@ pub fn run_words<F: Files, O: Sink, E: Sink, D: Finder>(
         → infers (command_of (words_bytes words.now)) ≡ true
         → IsSafeWithInferred (pick_from (source_held (words_bytes words.now) held)) bytes method }
 
-    // Each status that a device can bring comes only where its count rose in this call.
+    // Status 3 comes only where a read of this call was told that there is no such file.
     ensures missing_cause { result ≡ 3 → Rose (F.missed files.old) (F.missed files.new) }
+    // Status 4 comes only where a read of this call was refused.
     ensures unread_cause { result ≡ 4 → Rose (F.faults files.old) (F.faults files.new) }
+    // Status 6 comes only where a write of this call was refused: of a file that it names to be written, or of a line.
     ensures unwritten_cause { result ≡ 6 →
         IfEither (proof_name (words_bytes words.now)) (cache_name (words_bytes words.now)) (Rose (F.faults files.old) (F.faults files.new))
         ⊎ (Rose (O.faults out.old) (O.faults out.new) ⊎ Rose (E.faults err.old) (E.faults err.new)) }
