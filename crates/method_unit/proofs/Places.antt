@@ -1,8 +1,12 @@
 -- What a fault of the code names stands in the file.
-use Rattle.std.proofs.Common.{◌≡◌, ℕ, ◌+◌, ◌<◌, ◌≤◌, ◌^◌, nat_le, List, [], ◌∷◌, map, length, Fits, w32, sym, subst, arith}
-use Rattle.std.specs.List.{All, AllByRecursion}
+use Rattle.std.proofs.Common.{◌≡◌, ℕ, ◌+◌, ◌<◌, ◌≤◌, ◌^◌, nat_le, List, [], ◌∷◌, map, length, filter, option_map, None, Fits, w32, sym, subst, ap, arith}
+use Rattle.std.specs.List.{All, AllByRecursion, list_any}
+use Rattle.std.specs.Prelude.{◌==◌, ◌||◌, Bool}
+use Rattle.std.proofs.lemmas.List.{length-map}
+use Rattle.std.proofs.lemmas.Option.{slice_get_past}
+use Rattle.cil_model.specs.Blocks.{start_of_body, starts_at}
 use Rattle.cil_model.specs.Code.{CodeOf}
-use Rattle.cil_model.specs.Limits.{MAX_CODE_BYTES}
+use Rattle.cil_model.specs.Limits.{MAX_BLOCKS, MAX_CODE_BYTES}
 use Rattle.cil_model.proofs.ShortCodes.{code_is_short}
 use Rattle.il_decoder.specs.Decoding.{instructions_of}
 use Rattle.il_decoder.proofs.FaultPlaces.{code_instr_places}
@@ -10,7 +14,8 @@ use Rattle.stack_typer.proofs.CodeLies.{code_lies}
 use Rattle.cil_model.specs.declared.instruction.Instr.{Instr}
 use Rattle.flow_graph.specs.BlocksOf.{block_starts}
 use Rattle.method_unit.specs.Units.{AreDecodedOf, AreWithin}
-use Rattle.flow_graph.proofs.Lying.{all_by_index, all_passing}
+use Rattle.flow_graph.proofs.Lying.{all_by_index, all_passing, length-passing}
+use Rattle.method_unit.specs.UnitFile.{block_test, form_at, start_test}
 
 pub place_fits : (base most at : ℕ) → at ≤ most → base + most < 2 ^ 32 → Fits w32 (base + at)
 place_fits base most at le small = omega (arith, le, small)
@@ -26,6 +31,25 @@ blocks_within base is start starts small all are =
     subst (All (λ at. base + at < 2 ^ 32)) (sym are)
     (all_by_index (λ at. base + at < 2 ^ 32) _ (offsets_within base MAX_CODE_BYTES _ small
     (all_passing (λ i. i.at ≤ MAX_CODE_BYTES) _ _ (all_passing (λ i. i.at ≤ MAX_CODE_BYTES) (λ i. nat_le start i.at) is all))))
+
+-- There are no more blocks than instructions.
+length-starts : (is : List Instr) (start : ℕ) → length (block_starts is start) ≤ length is
+length-starts is start =
+    let body = filter (λ i. nat_le start i.at) is in
+    let starts : Instr → Bool = λ i. i.at == start || list_any (starts_at i.at) body in
+    omega (
+      arith,
+      length-map (filter starts body) (λ i. i.at),
+      length-passing starts body,
+      length-passing (λ i. nat_le start i.at) is,
+    )
+
+-- Few instructions make few blocks.
+pub few_blocks : (base : ℕ) (is : List Instr) → length is ≤ MAX_BLOCKS → block_test base is ≡ None
+unfolding start_test
+few_blocks base is few =
+    let starts = block_starts is (start_of_body is) in
+    ap (option_map (form_at base)) (slice_get_past starts MAX_BLOCKS (omega (arith, few, length-starts is (start_of_body is))))
 
 each_below : (least most : ℕ) (is : List Instr) → least ≤ most → AllByRecursion (λ i. i.at ≤ least) is → AllByRecursion (λ i. i.at ≤ most) is
 each_below least most [] le all = tt
