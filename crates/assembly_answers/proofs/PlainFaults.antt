@@ -4,8 +4,8 @@ use Rattle.asm_image.specs.declared.fault.Cause.{Cause}
 use Rattle.asm_image.specs.declared.fault.Cause.TheVariants as causes
 use Rattle.metadata_tables.specs.declared.fault.TableFault.{TableFault}
 use Rattle.metadata_tables.specs.declared.fault.TableFault.TheVariants as tables
-use Rattle.method_unit.specs.declared.unit_fault.UnitFault.{UnitFault}
-use Rattle.method_unit.specs.declared.unit_fault.UnitFault.TheVariants as units
+use Rattle.unit_form.specs.declared.unit_fault.UnitFault.{UnitFault}
+use Rattle.unit_form.specs.declared.unit_fault.UnitFault.TheVariants as units
 use Rattle.pe_reader.specs.declared.fault.PeFault.{PeFault}
 use Rattle.pe_reader.specs.declared.fault.PeFault.TheVariants as pe
 use Rattle.signature_blobs.specs.declared.fault.SigFault.{SigFault}

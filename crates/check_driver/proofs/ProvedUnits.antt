@@ -17,7 +17,7 @@ use Rattle.command_words.specs.Words.{command_files, command_of, file_names, wor
 use Rattle.command_words.specs.declared.command.Command.{Command}
 use Rattle.command_words.specs.declared.command.Command.TheVariants as commands
 use Rattle.method_unit.specs.UnitFile.{first_unit_fault, unit_of}
-use Rattle.method_unit.specs.declared.unit_fault.UnitFault.{UnitFault}
+use Rattle.unit_form.specs.declared.unit_fault.UnitFault.{UnitFault}
 use Rattle.invariant_checker.specs.Counts.{all_proved}
 use Rattle.unit_verdicts.specs.Picks.{limit_pick}
 use Rattle.unit_verdicts.proofs.UnitSafety.{proved_under_safe}

@@ -9,7 +9,7 @@ use Rattle.command_words.specs.Words.{args_told, check_files, command_of, file_i
 use Rattle.command_words.specs.declared.command.Command.{Command}
 use Rattle.command_words.specs.declared.command.Command.TheVariants as commands
 use Rattle.method_unit.specs.UnitFile.{first_unit_fault, unit_of}
-use Rattle.method_unit.specs.declared.unit_fault.UnitFault.{UnitFault}
+use Rattle.unit_form.specs.declared.unit_fault.UnitFault.{UnitFault}
 use Rattle.written_assemblies.specs.GeneratedFiles.{generated_file}
 use Rattle.invariant_checker.specs.Counts.{all_proved}
 use Rattle.answer_lines.specs.Answers.{Answer, output_answer}

@@ -5,7 +5,7 @@ use Rattle.asm_image.specs.Faults.{FirstBroken}
 use Rattle.asm_image.specs.declared.fault.AsmFault.{AsmFault}
 use Rattle.cc_base.specs.Files.{READ_LIMIT}
 use Rattle.method_unit.specs.UnitFile.{first_unit_fault, unit_of}
-use Rattle.method_unit.specs.declared.unit_fault.UnitFault.{UnitFault}
+use Rattle.unit_form.specs.declared.unit_fault.UnitFault.{UnitFault}
 use Rattle.unit_builder.specs.Linked.{linked_entries}
 use Rattle.unit_form.specs.Spelling.{unit_bytes}
 use Rattle.answer_lines.specs.declared.interrupt.Interrupt.{Interrupt}

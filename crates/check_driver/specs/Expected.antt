@@ -5,9 +5,9 @@ use Rattle.asm_image.specs.declared.fault.AsmFault.{AsmFault}
 use Rattle.cc_base.specs.Files.{READ_LIMIT}
 use Rattle.cil_model.specs.Limits.{MAX_FILE_BYTES}
 use Rattle.cil_model.specs.declared.unit.Unit.{Unit as MethodUnit}
-use Rattle.method_unit.specs.Faults.{fault_at}
+use Rattle.unit_form.specs.Faults.{fault_at}
 use Rattle.method_unit.specs.UnitFile.{first_unit_fault, unit_of}
-use Rattle.method_unit.specs.declared.unit_fault.UnitFault.{UnitFault}
+use Rattle.unit_form.specs.declared.unit_fault.UnitFault.{UnitFault}
 use Rattle.invariant_checker.specs.Counts.{all_proved}
 use Rattle.answer_lines.specs.Answers.{Answer, USAGE, missing_line, error_answer, output_answer, refused_answer}
 use Rattle.answer_lines.specs.Outcome.{after_line}

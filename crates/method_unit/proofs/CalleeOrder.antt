@@ -11,8 +11,8 @@ use Rattle.cc_base.specs.Tests.{first_of}
 use Rattle.cil_model.specs.declared.instruction.Instr.{Instr}
 use Rattle.method_unit.specs.CalledInOrder.{AreBelow, AreCalled, calls_in, next_behind}
 use Rattle.method_unit.specs.UnitFile.{first_uses, order_tests, order_tests_from}
-use Rattle.method_unit.specs.declared.unit_fault.UnitFault.{UnitFault}
-use Rattle.method_unit.specs.declared.unit_fault.UnitFault.TheVariants.{Form}
+use Rattle.unit_form.specs.declared.unit_fault.UnitFault.{UnitFault}
+use Rattle.unit_form.specs.declared.unit_fault.UnitFault.TheVariants.{Form}
 
 -- The tests from a callee on, where so many calls are left.
 tests_left : ℕ → List ℕ → List ℕ → List ℕ → Option UnitFault

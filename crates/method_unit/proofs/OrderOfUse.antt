@@ -13,7 +13,7 @@ use Rattle.cil_model.specs.declared.instruction.Op.{Op}
 use Rattle.cil_model.specs.declared.instruction.Op.TheVariants as ops
 use Rattle.method_unit.specs.CalledInOrder.{AreBelow, calls_in}
 use Rattle.method_unit.specs.UnitFile.{first_uses, form_at, names_something, number_test, number_tests, order_tests, order_tests_from}
-use Rattle.method_unit.specs.declared.unit_fault.UnitFault.TheVariants.{Form}
+use Rattle.unit_form.specs.declared.unit_fault.UnitFault.TheVariants.{Form}
 
 -- ---- the numbers in code
 

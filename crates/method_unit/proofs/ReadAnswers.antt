@@ -10,7 +10,7 @@ use Rattle.unit_form.specs.Spelling.{IsSpelledBy}
 use Rattle.method_unit.specs.UnitFile.{first_unit_fault}
 use Rattle.method_unit.specs.UnitOf.{IsRead, IsUnitIn}
 use Rattle.method_unit.specs.Units.{IsUnit}
-use Rattle.method_unit.specs.declared.unit_fault.UnitFault.{UnitFault}
+use Rattle.unit_form.specs.declared.unit_fault.UnitFault.{UnitFault}
 use Rattle.method_unit.proofs.UnitAgain.{spelled_again}
 use Rattle.method_unit.proofs.UnitTaken.{unit_read}
 

@@ -24,9 +24,9 @@ use Rattle.unit_form.specs.AddedClauses.{added_clauses}
 use Rattle.unit_form.specs.FieldsRead.{HasRead}
 use Rattle.unit_form.specs.Spelling.{HasFields, IsSpelledBy, unit_bytes}
 use Rattle.unit_form.specs.UnitFields.{FieldsOfUnit, unit_fields}
-use Rattle.method_unit.specs.UnitFile.{added_test, block_test, clause_test, code_tests_of, count_test, decoding_test, field_fault, field_test, first_unit_fault, fit_together, form_at, instr_tests, number_tests, order_tests, shape_told, start_test, told_clauses, typing_test, unit_of, unit_told}
+use Rattle.method_unit.specs.UnitFile.{added_test, block_test, clause_test, code_tests_of, count_test, decoding_test, field_test, first_unit_fault, fit_together, form_at, instr_tests, number_tests, order_tests, shape_told, start_test, told_clauses, typing_test, unit_of, unit_told}
 use Rattle.method_unit.specs.Units.{IsUnit}
-use Rattle.method_unit.specs.declared.unit_fault.UnitFault.{UnitFault}
+use Rattle.unit_form.specs.declared.unit_fault.UnitFault.{UnitFault}
 use Rattle.method_unit.proofs.OrderOfUse.{named_are_numbers, use_is_ordered, used_are_few}
 use Rattle.method_unit.proofs.ToldClauses.{all_together, fit_within}
 
@@ -144,7 +144,7 @@ module _ (unit : MethodUnit) (is : IsUnit unit) where
 
     fields_pass : field_test bytes ≡ None
     unfolding field_test
-    fields_pass = ap (option_map field_fault) again.passed
+    fields_pass = again.passed
 
     file_passes : first_unit_fault bytes ≡ None
     unfolding first_unit_fault

@@ -110,7 +110,7 @@ module _ (bytes : List ℕ) (unit : MethodUnit) (fits : IsBytes bytes) (none : f
 
   fields_passed : first_of (unit_fields bytes).tests ≡ None
   unfolding first_unit_fault field_test
-  fields_passed = none_of _ _ (none_here (field_test bytes) _ none)
+  fields_passed = none_here (field_test bytes) _ none
 
   passed : InstrsPassed fields.code_offset (shape_told fields) fields.callee_offsets fields.added is
   unfolding first_unit_fault code_tests_of fields is

@@ -1,4 +1,3 @@
-pub mod Faults
 pub mod UnitFile
 pub mod Units
 pub mod CalledInOrder

@@ -25,21 +25,13 @@ use Rattle.stack_typer.specs.FaultPlaces.{type_fault_at}
 use Rattle.stack_typer.specs.FirstTypeFault.{first_type_fault}
 use Rattle.unit_form.specs.Callees.{olds_in}
 use Rattle.unit_form.specs.UnitFields.{FieldsOfUnit, unit_fields}
-use Rattle.unit_form.specs.declared.field_fault.FieldFault.{FieldFault}
-use Rattle.unit_form.specs.declared.field_fault.FieldFault.TheVariants as fields
-use Rattle.method_unit.specs.declared.unit_fault.UnitFault.{UnitFault}
-use Rattle.method_unit.specs.declared.unit_fault.UnitFault.TheVariants.{Short, Form, Version}
+use Rattle.unit_form.specs.declared.unit_fault.UnitFault.{UnitFault}
+use Rattle.unit_form.specs.declared.unit_fault.UnitFault.TheVariants.{Form}
 
 -- ---- the fields
 
--- A fault of the fields as one of the unit.
-abbrev pub field_fault : FieldFault → UnitFault
-field_fault (fields.Short at) = Short at
-field_fault (fields.Form at) = Form at
-field_fault (fields.Version at) = Version at
-
 unfoldable pub field_test : List ℕ → Option UnitFault
-field_test bytes = option_map field_fault (first_of (unit_fields bytes).tests)
+field_test bytes = first_of (unit_fields bytes).tests
 
 -- ---- the instructions
 

@@ -6,10 +6,10 @@ ghost use Rattle.cil_model.specs.UnitCalls.{callee_of};
 ghost use Rattle.cil_model.specs.WellFormed.{called_by};
 ghost use Rattle.method_unit.specs.CalledInOrder.{next_behind};
 ghost use Rattle.method_unit.specs.UnitFile.{order_tests};
-ghost use Rattle.method_unit.specs.declared.unit_fault.UnitFault.TheVariants.{Form};
+ghost use Rattle.unit_form.specs.declared.unit_fault.UnitFault.TheVariants.{Form};
 
-use crate::unit_fault::UnitFault;
 use cil_model::{Instr, Op, UnitCall, unit_call};
+use unit_form::UnitFault;
 
 /// The number of the callee that a call names.
 fn callee_of(call: Option<UnitCall>) -> Option<u32>

@@ -6,12 +6,11 @@ mod equality;
 mod spelling;
 mod unit_clauses;
 mod unit_code;
-mod unit_fault;
 mod unit_kinds;
 mod unit_reader;
 
 pub use equality::same_unit;
 pub use spelling::unit_bytes;
 pub use unit_code::names_something;
-pub use unit_fault::{UnitFault, UnitRefusal};
+pub use unit_form::{UnitFault, UnitRefusal};
 pub use unit_reader::read_unit;

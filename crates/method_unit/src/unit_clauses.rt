@@ -17,12 +17,12 @@ ghost use Rattle.method_unit.specs.Units.{AreWithin};
 ghost use Rattle.method_unit.specs.UnitFile.{added_test, block_test, clause_test, start_test, told_clauses};
 ghost use Rattle.unit_form.specs.Callees.{olds_in};
 
-use crate::unit_fault::{UnitFault, UnitRefusal};
 use cc_base::{NoMemory, Refusal};
 use cil_model::{Clause, Instr, List, MAX_BLOCKS, MAX_CLAUSES, MAX_OLD_VALUES, Shape};
 use contract_extract::{Contracts, extract};
 use flow_graph::block_starts;
 use std::alloc::Global;
+use unit_form::{UnitFault, UnitRefusal};
 
 /// The clauses of the code, which begins at the offset `base` of the file, and the start of its body.
 #[tactic(auto, using(clause_faults::proofs::FaultLemmas::FaultPlaces::clause_fault_place), unfolding(crate::specs::UnitFile::clause_test))]

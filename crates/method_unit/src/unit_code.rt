@@ -6,11 +6,11 @@ ghost use Rattle.il_decoder.specs.Decoding.{instructions_of};
 ghost use Rattle.method_unit.specs.Units.{AreDecodedOf};
 ghost use Rattle.method_unit.specs.UnitFile.{count_test, decoding_test, names_something, number_test, number_tests};
 
-use crate::unit_fault::{UnitFault, UnitRefusal};
 use cc_base::Refusal;
 use cil_model::{Instr, MAX_INSTRUCTIONS, Op, UnitCall, array_place, unit_call};
 use il_decoder::decode;
 use std::alloc::Global;
+use unit_form::{UnitFault, UnitRefusal};
 
 /// The instructions of the code, which begins at the offset `base` of the file.
 #[tactic(auto, using(il_decoder::proofs::FaultPlaces::code_fault_place, crate::proofs::Places::decoded_of), unfolding(crate::specs::UnitFile::decoding_test))]

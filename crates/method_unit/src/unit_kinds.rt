@@ -9,11 +9,11 @@ ghost use Rattle.cil_model.specs.Limits.{MAX_CODE_BYTES};
 ghost use Rattle.method_unit.specs.UnitFile.{typing_test};
 ghost use Rattle.method_unit.specs.Units.{AreWithin};
 
-use crate::unit_fault::{UnitFault, UnitRefusal};
 use cc_base::Refusal;
 use cil_model::{Instr, Shape, TypeFault};
 use stack_typer::{Kinds, type_code};
 use std::alloc::Global;
+use unit_form::{UnitFault, UnitRefusal};
 
 /// The IL offset that a fault of kinds names.
 fn type_fault_at(fault: TypeFault) -> u32

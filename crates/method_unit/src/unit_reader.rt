@@ -22,14 +22,12 @@ ghost use Rattle.method_unit.specs.Units.{AreDecodedOf, IsUnit};
 use crate::callee_order::check_order;
 use crate::unit_clauses::{check_added, check_blocks, read_contracts, with_added};
 use crate::unit_code::{check_count, check_numbers, decode_code};
-use crate::unit_fault::{UnitFault, UnitRefusal};
 use crate::unit_kinds::find_kinds;
-use cc_base::Refusal;
 use cil_model::{Clause, Instr, List, Shape, Unit};
 use contract_extract::Contracts;
 use stack_typer::{Kinds, TypedUnit};
 use std::alloc::Global;
-use unit_form::{UnitFields, read_fields};
+use unit_form::{UnitFields, UnitRefusal, read_fields};
 
 /// The fields of a unit file.
 #[tactic(auto, unfolding(crate::specs::UnitFile::field_test))]
@@ -39,11 +37,7 @@ fn fields_of(alloc: Global, bytes: &[u8]) -> Result<UnitFields<'_>, UnitRefusal>
     ensures code { IfOk result (IsCodeWithin bytes.now) }
     ensures added { IfOk result (λ fields. ClausesWithinLimits fields.added.items) }
 {
-    match read_fields(alloc, bytes) {
-        Ok(fields) => Ok(fields),
-        Err(Refusal::Bad(fault)) => Err(Refusal::Bad(fault.into())),
-        Err(Refusal::NoMemory) => Err(Refusal::NoMemory),
-    }
+    read_fields(alloc, bytes)
 }
 
 /// Tests the instructions of a unit to whose clauses these were added, and answers its other clauses and the start of

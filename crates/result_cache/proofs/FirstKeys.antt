@@ -12,7 +12,7 @@ use Rattle.cc_base.specs.declared.refusal.Refusal.TheVariants.{Bad, NoMemory}
 use Rattle.cil_model.specs.declared.unit.Unit.{Unit as MethodUnit}
 use Rattle.method_unit.specs.UnitFile.{first_unit_fault, unit_of}
 use Rattle.method_unit.specs.Units.{IsUnit}
-use Rattle.method_unit.specs.declared.unit_fault.UnitFault.{UnitFault}
+use Rattle.unit_form.specs.declared.unit_fault.UnitFault.{UnitFault}
 use Rattle.method_unit.proofs.UnitAgain.{one_unit, spelled_again}
 use Rattle.unit_form.specs.Spelling.{HasCounts, IsSpelledBy, unit_bytes, unit_spelling}
 use Rattle.unit_form.specs.declared.form.UnitForm.{UnitForm}

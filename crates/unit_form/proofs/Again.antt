@@ -18,7 +18,7 @@ use Rattle.unit_form.specs.Fields.{count_field, u8_field, u16_field, u32_field, 
 use Rattle.unit_form.specs.Forms.{IsCount, count_bytes}
 use Rattle.unit_form.specs.Parses.{Parse, field, many}
 use Rattle.unit_form.specs.Spelling.{name_bytes, places_bytes}
-use Rattle.unit_form.specs.declared.field_fault.FieldFault.{FieldFault}
+use Rattle.unit_form.specs.declared.unit_fault.UnitFault.{UnitFault}
 use Rattle.unit_form.specs.declared.form.UnitForm.{UnitForm}
 use Rattle.unit_form.specs.declared.form.UnitForm.TheVariants.{First, Second, Third}
 use Rattle.unit_form.proofs.Stands.{behind, lies, byte_of, byte_read, number_read}
@@ -31,10 +31,10 @@ pub record ReadsBack {X : Type 0} (bytes : List ℕ) (parse : Parse X) (x : X) (
   pub behind : drop parse.next bytes ≡ rest
   pub inside : parse.next ≤ length bytes
 
-pub one_test : (test : Bool) (fault : FieldFault) → test ≡ true → first_of (must test fault ∷ []) ≡ None
+pub one_test : (test : Bool) (fault : UnitFault) → test ≡ true → first_of (must test fault ∷ []) ≡ None
 one_test test fault e = first_of-none _ [] ((must_hold test fault).1 e) ∙ first_of-nil
 
-pub test_before : (test : Bool) (fault : FieldFault) (tests : List (Option FieldFault)) → test ≡ true → first_of tests ≡ None → first_of (must test fault ∷ tests) ≡ None
+pub test_before : (test : Bool) (fault : UnitFault) (tests : List (Option UnitFault)) → test ≡ true → first_of tests ≡ None → first_of (must test fault ∷ tests) ≡ None
 test_before test fault tests e passed = first_of-none _ tests ((must_hold test fault).1 e) ∙ passed
 
 pub field_inside : (bytes : List ℕ) (at size : ℕ) → at + size ≤ length bytes → first_of (field bytes at size ∷ []) ≡ None

@@ -13,8 +13,8 @@ use Rattle.cil_model.specs.declared.place.Place.{Place}
 use Rattle.unit_form.specs.Callees.{olds_in, clause_tree, is_clause_tree, kept_tree}
 use Rattle.unit_form.specs.Parses.{IsRead}
 use Rattle.unit_form.specs.TreeFields.{tree_of_roots, tree_roots}
-use Rattle.unit_form.specs.declared.field_fault.FieldFault.{FieldFault}
-use Rattle.unit_form.specs.declared.field_fault.FieldFault.TheVariants.{Form}
+use Rattle.unit_form.specs.declared.unit_fault.UnitFault.{UnitFault}
+use Rattle.unit_form.specs.declared.unit_fault.UnitFault.TheVariants.{Form}
 use Rattle.unit_form.specs.declared.form.UnitForm.{UnitForm}
 use Rattle.unit_form.proofs.WholeTrees.{one_tree, size_of_roots}
 
@@ -81,7 +81,7 @@ unfolding clause_tree
 kept_refused form args result kind olds bytes at roots passed e kept =
     first_of-append_none _ _ passed ∙ must-failed _ (Form at) [] (if_none _ _ (kept ∙ kept_is form args result kind olds bytes at roots passed e))
 
-pub tree_cut : (form : UnitForm) (args : List Place) (result : Place) (kind : ClauseKind) (olds : ℕ) (bytes : List ℕ) (at : ℕ) (fault : FieldFault)
+pub tree_cut : (form : UnitForm) (args : List Place) (result : Place) (kind : ClauseKind) (olds : ℕ) (bytes : List ℕ) (at : ℕ) (fault : UnitFault)
     → first_of (tree_roots form bytes at).tests ≡ Some fault → first_of (clause_tree form args result kind olds bytes at).tests ≡ Some fault
 unfolding clause_tree
 tree_cut form args result kind olds bytes at fault cut = first_of-append_some _ _ fault cut

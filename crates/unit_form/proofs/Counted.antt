@@ -3,7 +3,7 @@ use Rattle.std.proofs.Common.{◌≡◌, ℕ, zero, suc, ◌+◌, ◌-◌, ◌<�
 use Rattle.cc_base.specs.Tests.{first_of}
 use Rattle.cc_base.proofs.TestLemmas.{first_of-append_none, first_of-append_some}
 use Rattle.unit_form.specs.Parses.{Parse, many}
-use Rattle.unit_form.specs.declared.field_fault.FieldFault.{FieldFault}
+use Rattle.unit_form.specs.declared.unit_fault.UnitFault.{UnitFault}
 
 -- Of so many fields, these are read, and from this offset on the rest is left.
 pub record AreRead {X : Type 0} (one : List X → ℕ → Parse X) (count start : ℕ) (read : List X) (rest at : ℕ) : Type 0 where
@@ -31,7 +31,7 @@ read_next one count start k at next read x l before passed e f =
     rw e (rw f (one_more one count start read (count - (k + 1)) at (rw (← e1) before) passed))
 
 -- The next one has a fault, and so have all.
-pub read_fault : {X : Type 0} (one : List X → ℕ → Parse X) (count start k at : ℕ) (read : List X) (fault : FieldFault) → k < count → AreRead one count start read (count - k) at
+pub read_fault : {X : Type 0} (one : List X → ℕ → Parse X) (count start k at : ℕ) (read : List X) (fault : UnitFault) → k < count → AreRead one count start read (count - k) at
     → first_of (one read at).tests ≡ Some fault → first_of (many one [] count start).tests ≡ Some fault
 unfolding many
 read_fault one count start k at read fault l before failed =

@@ -8,11 +8,11 @@ use Rattle.cil_model.specs.TermCodes.{Root, NullRoot}
 use Rattle.unit_form.specs.Fields.{bytes_field}
 use Rattle.unit_form.specs.Parses.{IsRead}
 use Rattle.unit_form.specs.TreeFields.{operand_field, operand_size, root_of}
-use Rattle.unit_form.specs.declared.field_fault.FieldFault.{FieldFault}
-use Rattle.unit_form.specs.declared.field_fault.FieldFault.TheVariants.{Form}
+use Rattle.unit_form.specs.declared.unit_fault.UnitFault.{UnitFault}
+use Rattle.unit_form.specs.declared.unit_fault.UnitFault.TheVariants.{Form}
 use Rattle.unit_form.specs.declared.form.UnitForm.{UnitForm}
 
-pub operand_cut : (form : UnitForm) (bytes : List ℕ) (at tag size : ℕ) (fault : FieldFault) → size ≡ operand_size form tag → first_of (bytes_field size bytes at).tests ≡ Some fault
+pub operand_cut : (form : UnitForm) (bytes : List ℕ) (at tag size : ℕ) (fault : UnitFault) → size ≡ operand_size form tag → first_of (bytes_field size bytes at).tests ≡ Some fault
     → first_of (operand_field form tag bytes at).tests ≡ Some fault
 unfolding operand_field
 operand_cut form bytes at tag size fault e cut =

@@ -8,8 +8,8 @@ use Rattle.cil_model.specs.TermCodes.{Root}
 use Rattle.unit_form.specs.Roots.{told}
 use Rattle.unit_form.specs.TreeFields.{arity, kept_with, root_field, roots_field, tree_roots}
 use Rattle.unit_form.specs.declared.root.Root.{Root as RootInMemory}
-use Rattle.unit_form.specs.declared.field_fault.FieldFault.{FieldFault}
-use Rattle.unit_form.specs.declared.field_fault.FieldFault.TheVariants.{Short}
+use Rattle.unit_form.specs.declared.unit_fault.UnitFault.{UnitFault}
+use Rattle.unit_form.specs.declared.unit_fault.UnitFault.TheVariants.{Short}
 use Rattle.unit_form.specs.declared.form.UnitForm.{UnitForm}
 
 -- Of the roots of the tree at `start` the first 4,097 are kept as they are read; from the offset `at` on so many trees
@@ -81,7 +81,7 @@ kept_told roots root = rw (length-map roots told) (by_room (nat_lt (length roots
     by_room false = refl
 
 -- The next root has a fault, and so has the tree.
-pub root_fault : (form : UnitForm) (bytes : List ℕ) (start : ℕ) (read : List Root) (n k trees at : ℕ) (fault : FieldFault) → k < n → 0 < trees → RootsLeft form bytes start read (n - k) trees at
+pub root_fault : (form : UnitForm) (bytes : List ℕ) (start : ℕ) (read : List Root) (n k trees at : ℕ) (fault : UnitFault) → k < n → 0 < trees → RootsLeft form bytes start read (n - k) trees at
     → first_of (root_field form bytes at).tests ≡ Some fault → first_of (tree_roots form bytes start).tests ≡ Some fault
 unfolding roots_field
 root_fault form bytes start read n k trees at fault l some before failed =

@@ -19,7 +19,7 @@ use Rattle.unit_form.specs.Fields.{count_field, u8_field, u16_field, u32_field, 
 use Rattle.unit_form.specs.Forms.{IsCount, count_bytes}
 use Rattle.unit_form.specs.Parses.{Parse, field, many}
 use Rattle.unit_form.specs.Spelling.{name_bytes, places_bytes}
-use Rattle.unit_form.specs.declared.field_fault.FieldFault.{FieldFault}
+use Rattle.unit_form.specs.declared.unit_fault.UnitFault.{UnitFault}
 use Rattle.unit_form.specs.declared.form.UnitForm.{UnitForm}
 use Rattle.unit_form.specs.declared.form.UnitForm.TheVariants.{First, Second, Third}
 use Rattle.unit_form.proofs.Stands.{byte_of, byte_stands, number_stands}
@@ -33,7 +33,7 @@ pub field_lies : (bytes : List ℕ) (at size : ℕ) → field bytes at size ≡ 
 unfolding field
 field_lies bytes at size none = leb-true _ _ ((must_hold _ _).0 none)
 
-pub holds : (test : Bool) (fault : FieldFault) → must test fault ≡ None → test ≡ true
+pub holds : (test : Bool) (fault : UnitFault) → must test fault ≡ None → test ≡ true
 holds test fault none = (must_hold test fault).0 none
 
 -- ---- numbers

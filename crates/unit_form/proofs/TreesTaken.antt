@@ -20,7 +20,7 @@ use Rattle.cil_model.specs.declared.place.Place.{Place}
 use Rattle.unit_form.specs.Fields.{u8_field, bytes_field}
 use Rattle.unit_form.specs.Forms.{count_size}
 use Rattle.unit_form.specs.TreeFields.{arity, bare_root, bitwise_of_byte, comparison_of_byte, is_tag, operand_field, operand_size, operator_of_byte, root_field, root_of, roots_field, tree_of_roots, tree_roots, unary_of_byte}
-use Rattle.unit_form.specs.declared.field_fault.FieldFault.TheVariants.{Short}
+use Rattle.unit_form.specs.declared.unit_fault.UnitFault.TheVariants.{Short}
 use Rattle.unit_form.specs.TreeSpelling.{operator_byte, root_bytes, tree_bytes, unary_byte}
 use Rattle.unit_form.specs.declared.form.UnitForm.{UnitForm}
 use Rattle.unit_form.proofs.Taken.{Stands, u8_taken, bytes_taken, length-bytes_field, holds, case_of, place_numbers, IsNumbered}

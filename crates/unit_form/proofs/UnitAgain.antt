@@ -25,7 +25,7 @@ use Rattle.unit_form.specs.Parses.{field}
 use Rattle.unit_form.specs.Spelling.{HasCounts, HasFields, IsSpelledBy, added_bytes, callee_bytes, clauses_bytes, fields_bytes, form_with, name_bytes, places_bytes, unit_bytes, unit_spelling}
 use Rattle.unit_form.specs.UnitFields.{FieldsOfUnit, added_field, code_field, end_tests, fields_in, magic_tests, max_stack_field, unit_fields}
 use Rattle.unit_form.specs.declared.clause_list.ClauseList.TheVariants.{Added}
-use Rattle.unit_form.specs.declared.field_fault.FieldFault.{FieldFault}
+use Rattle.unit_form.specs.declared.unit_fault.UnitFault.{UnitFault}
 use Rattle.unit_form.specs.declared.form.UnitForm.{UnitForm}
 use Rattle.unit_form.specs.declared.form.UnitForm.TheVariants.{First, Second, Third}
 use Rattle.unit_form.proofs.Again.{ReadsBack, both, bytes_again, count_again, field_inside, name_again, one_test, place_again, test_before, u16_again, u32_again, variables_again}
@@ -223,7 +223,7 @@ written_spells unit is =
 -- ---- answers
 
 -- The fields that are read are those of a unit that the bytes spell.
-pub fields_spelled : {F : Type 0} (bytes : List ℕ) (told : F → FieldsOfUnit) (answer : Result F (Refusal FieldFault)) → IsBytes bytes
+pub fields_spelled : {F : Type 0} (bytes : List ℕ) (told : F → FieldsOfUnit) (answer : Result F (Refusal UnitFault)) → IsBytes bytes
     → JudgesOrNoMemory answer (first_of (unit_fields bytes).tests) (λ f. told f ≡ (unit_fields bytes).value)
     → IfOk answer (λ f. (unit : MethodUnit) → HasRead unit (told f) → IsSpelledBy unit bytes × HasFields unit)
 fields_spelled bytes told (Ok f) fits judged = λ unit has.
@@ -232,14 +232,14 @@ fields_spelled bytes told (Ok f) fits judged = λ unit has.
 fields_spelled bytes told (Err refusal) fits judged = tt
 
 -- A unit that the bytes spell has the fields that are read.
-pub fields_only : {F : Type 0} (bytes : List ℕ) (unit : MethodUnit) (told : F → FieldsOfUnit) (answer : Result F (Refusal FieldFault)) → HasFields unit → IsSpelledBy unit bytes
+pub fields_only : {F : Type 0} (bytes : List ℕ) (unit : MethodUnit) (told : F → FieldsOfUnit) (answer : Result F (Refusal UnitFault)) → HasFields unit → IsSpelledBy unit bytes
     → JudgesOrNoMemory answer (first_of (unit_fields bytes).tests) (λ f. told f ≡ (unit_fields bytes).value) → GivesOnly answer (λ f. HasRead unit (told f))
 fields_only bytes unit told (Ok f) is spelled judged = subst (λ g. HasRead unit g) (sym judged.1) (unit_again bytes unit is spelled).has
 fields_only bytes unit told (Err (Bad fault)) is spelled judged = no_fault (sym judged ∙ (unit_again bytes unit is spelled).passed)
 fields_only bytes unit told (Err NoMemory) is spelled judged = tt
 
 -- The added clauses that are read keep the limits together.
-pub added_within : {F : Type 0} (bytes : List ℕ) (told : F → FieldsOfUnit) (answer : Result F (Refusal FieldFault)) → IsBytes bytes
+pub added_within : {F : Type 0} (bytes : List ℕ) (told : F → FieldsOfUnit) (answer : Result F (Refusal UnitFault)) → IsBytes bytes
     → JudgesOrNoMemory answer (first_of (unit_fields bytes).tests) (λ f. told f ≡ (unit_fields bytes).value)
     → IfOk answer (λ f. ClausesWithinLimits (told f).added)
 added_within bytes told (Ok f) fits judged =

@@ -21,7 +21,7 @@ use Rattle.unit_form.specs.Fields.{bytes_field, count_field, name_field, place_f
 use Rattle.unit_form.specs.Forms.{IsCount, MayAdd, count_bytes, form_numbered, form_of, is_form_number, magic}
 use Rattle.unit_form.specs.Parses.{field}
 use Rattle.unit_form.specs.Spelling.{HasFields, IsSpelledBy, added_bytes, callee_bytes, fields_bytes, name_bytes, places_bytes, shape_bytes, unit_spelling}
-use Rattle.unit_form.specs.declared.field_fault.FieldFault.TheVariants.{Form, Version}
+use Rattle.unit_form.specs.declared.unit_fault.UnitFault.TheVariants.{Form, Version}
 use Rattle.unit_form.specs.UnitFields.{added_field, code_field, end_tests, fields_in, magic_tests, max_stack_field, unit_fields}
 use Rattle.unit_form.specs.declared.clause_list.ClauseList.TheVariants.{Added}
 use Rattle.unit_form.specs.declared.form.UnitForm.{UnitForm}

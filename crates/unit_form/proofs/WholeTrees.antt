@@ -6,7 +6,7 @@ use Rattle.cc_base.proofs.TestLemmas.{none_behind, first_of-one}
 use Rattle.cil_model.specs.Laws.TermsBack.{terms_of-preorder}
 use Rattle.cil_model.specs.TermCodes.{Root, ConstRoot, ArgRoot, NullRoot, ResultRoot, LenRoot, ElemRoot, BinRoot, UnRoot, OldRoot, CondRoot, preorder, terms_of, first_term}
 use Rattle.cil_model.specs.Terms.{Term, Const, Arg, Null, Result, Len, Elem, Bin, Un, Old, Cond, term_size}
-use Rattle.unit_form.specs.declared.field_fault.FieldFault.TheVariants.{Short}
+use Rattle.unit_form.specs.declared.unit_fault.UnitFault.TheVariants.{Short}
 use Rattle.unit_form.specs.TreeFields.{arity, root_field, roots_field, tree_of_roots, tree_roots}
 use Rattle.unit_form.specs.declared.form.UnitForm.{UnitForm}
 

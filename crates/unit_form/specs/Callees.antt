@@ -17,7 +17,7 @@ use Rattle.unit_form.specs.Parses.{Parse, many}
 use Rattle.unit_form.specs.TreeFields.{tree_of_roots, tree_roots}
 use Rattle.unit_form.specs.declared.clause_list.ClauseList.{ClauseList}
 use Rattle.unit_form.specs.declared.clause_list.ClauseList.TheVariants as lists
-use Rattle.unit_form.specs.declared.field_fault.FieldFault.TheVariants.{Form}
+use Rattle.unit_form.specs.declared.unit_fault.UnitFault.TheVariants.{Form}
 use Rattle.unit_form.specs.declared.form.UnitForm.{UnitForm}
 
 -- ---- clauses

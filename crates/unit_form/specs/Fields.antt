@@ -8,8 +8,8 @@ use Rattle.cil_model.specs.Places.{place_number, place_of_number}
 use Rattle.cil_model.specs.declared.place.Place.{Place}
 use Rattle.cil_model.specs.declared.place.Place.TheVariants as places
 use Rattle.unit_form.specs.Parses.{Parse, field, many}
-use Rattle.unit_form.specs.declared.field_fault.FieldFault.{FieldFault}
-use Rattle.unit_form.specs.declared.field_fault.FieldFault.TheVariants.{Form}
+use Rattle.unit_form.specs.declared.unit_fault.UnitFault.{UnitFault}
+use Rattle.unit_form.specs.declared.unit_fault.UnitFault.TheVariants.{Form}
 use Rattle.unit_form.specs.declared.form.UnitForm.{UnitForm}
 use Rattle.unit_form.specs.declared.form.UnitForm.TheVariants.{First, Second, Third}
 
@@ -41,7 +41,7 @@ abbrev pub is_graphic : ℕ → Bool
 is_graphic b = nat_le 0x21 b && nat_le b 0x7e
 
 -- The bytes of a name, which begin at this offset.
-unfoldable pub graphic_tests : ℕ → List ℕ → List (Option FieldFault)
+unfoldable pub graphic_tests : ℕ → List ℕ → List (Option UnitFault)
 graphic_tests at [] = []
 graphic_tests at (b ∷ bs) = must (is_graphic b) (Form at) ∷ graphic_tests (at + 1) bs
 

@@ -9,3 +9,4 @@ pub mod AddedClauses
 pub mod UnitFields
 pub mod Spelling
 pub mod FieldsRead
+pub mod Faults

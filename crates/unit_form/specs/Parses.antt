@@ -1,12 +1,12 @@
 -- What is read from an offset of a file on.
 use Rattle.std.specs.Prelude.{ℕ, zero, suc, ◌+◌, ◌≡◌, ◌≤◌, List, [], ◌∷◌, ◌++◌, length, nat_le, Option}
 use Rattle.cc_base.specs.Tests.{must}
-use Rattle.unit_form.specs.declared.field_fault.FieldFault.{FieldFault}
-use Rattle.unit_form.specs.declared.field_fault.FieldFault.TheVariants.{Short}
+use Rattle.unit_form.specs.declared.unit_fault.UnitFault.{UnitFault}
+use Rattle.unit_form.specs.declared.unit_fault.UnitFault.TheVariants.{Short}
 
 -- The tests that are made, in order, and, where each is passed, what was read and the offset after it.
 pub record Parse (X : Type 0) : Type 0 where
-  pub tests : List (Option FieldFault)
+  pub tests : List (Option UnitFault)
   pub value : X
   pub next : ℕ
 
@@ -15,7 +15,7 @@ abbrev pub IsRead : {X : Type 0} → List ℕ → Parse X → X → ℕ → Type
 IsRead bytes parse value next = (value ≡ parse.value) × (next ≡ parse.next) × (next ≤ length bytes)
 
 -- A field of this size does not pass the end.
-unfoldable pub field : List ℕ → ℕ → ℕ → Option FieldFault
+unfoldable pub field : List ℕ → ℕ → ℕ → Option UnitFault
 field bytes at size = must (nat_le (at + size) (length bytes)) (Short at)
 
 -- So many fields, one after another, where those that were read before tell the form of the next.

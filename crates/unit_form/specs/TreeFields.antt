@@ -14,7 +14,7 @@ use Rattle.cil_model.specs.declared.instruction.UnOp.TheVariants as unary
 use Rattle.unit_form.specs.Fields.{bytes_field, u8_field}
 use Rattle.unit_form.specs.Forms.{count_size}
 use Rattle.unit_form.specs.Parses.{Parse}
-use Rattle.unit_form.specs.declared.field_fault.FieldFault.TheVariants.{Short, Form}
+use Rattle.unit_form.specs.declared.unit_fault.UnitFault.TheVariants.{Short, Form}
 use Rattle.unit_form.specs.declared.form.UnitForm.{UnitForm}
 
 -- ---- operators

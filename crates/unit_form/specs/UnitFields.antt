@@ -10,8 +10,8 @@ use Rattle.unit_form.specs.Fields.{bytes_field, count_field, name_field, place_f
 use Rattle.unit_form.specs.Forms.{form_of, is_form_number}
 use Rattle.unit_form.specs.Parses.{Parse, field}
 use Rattle.unit_form.specs.declared.clause_list.ClauseList.TheVariants.{Added}
-use Rattle.unit_form.specs.declared.field_fault.FieldFault.{FieldFault}
-use Rattle.unit_form.specs.declared.field_fault.FieldFault.TheVariants.{Form, Version}
+use Rattle.unit_form.specs.declared.unit_fault.UnitFault.{UnitFault}
+use Rattle.unit_form.specs.declared.unit_fault.UnitFault.TheVariants.{Form, Version}
 use Rattle.unit_form.specs.declared.form.UnitForm.{UnitForm}
 use Rattle.unit_form.specs.declared.form.UnitForm.TheVariants.{First, Second, Third}
 
@@ -30,7 +30,7 @@ pub record FieldsOfUnit : Type 0 where
   pub added_offset : ℕ
 
 -- The four bytes `CCU1`, `CCU2` or `CCU3`.
-unfoldable pub magic_tests : List ℕ → List (Option FieldFault)
+unfoldable pub magic_tests : List ℕ → List (Option UnitFault)
 magic_tests bytes =
     field bytes 0 4
     ∷ must (slice_index bytes 0 == 67) (Form 0)
@@ -59,7 +59,7 @@ added_field Second args result bytes at = record { tests = []; value = []; next 
 added_field Third args result bytes at = clauses_field Added Third args result bytes at
 
 -- Nothing stands from here on.
-unfoldable pub end_tests : List ℕ → ℕ → List (Option FieldFault)
+unfoldable pub end_tests : List ℕ → ℕ → List (Option UnitFault)
 end_tests bytes at = must (nat_le (length bytes) at) (Form at) ∷ []
 
 -- All fields behind the magic, in the order in which they stand in a file of this form.

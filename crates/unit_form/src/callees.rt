@@ -7,7 +7,7 @@ ghost use Rattle.unit_form.specs.Parses.{IsRead};
 
 use crate::clause_list::ClauseList;
 use crate::clauses::read_clauses;
-use crate::field_fault::FieldRefusal;
+use crate::unit_fault::UnitRefusal;
 use crate::form::UnitForm;
 use crate::names::read_name;
 use crate::places::{read_place, read_variables};
@@ -21,7 +21,7 @@ fn read_callee(
     form: UnitForm,
     bytes: &[u8],
     at: u32,
-) -> Result<(CalleeInfo, u32), FieldRefusal>
+) -> Result<(CalleeInfo, u32), UnitRefusal>
     requires short { length bytes.now ≤ 2147483647 }
     ensures { JudgesOrNoMemory result (first_of (callee_field form bytes.now at).tests) (λ read. IsRead bytes.now (callee_field form bytes.now at) read.0 read.1) }
 {
@@ -46,7 +46,7 @@ pub fn read_callees(
     bytes: &[u8],
     start: u32,
     count: u16,
-) -> Result<(Vec<CalleeInfo>, Vec<u32>, u32), FieldRefusal>
+) -> Result<(Vec<CalleeInfo>, Vec<u32>, u32), UnitRefusal>
     requires short { length bytes.now ≤ 2147483647 }
     requires inside { start ≤ length bytes.now }
     ensures { JudgesOrNoMemory result (first_of (callee_fields form count bytes.now start).tests)

@@ -9,7 +9,7 @@ ghost use Rattle.unit_form.specs.Roots.{told};
 ghost use Rattle.unit_form.specs.TreeFields.{tree_of_roots, tree_roots};
 
 use crate::clause_list::ClauseList;
-use crate::field_fault::{FieldFault, FieldRefusal};
+use crate::unit_fault::{UnitFault, UnitRefusal};
 use crate::form::UnitForm;
 use crate::numbers::u8_field;
 use crate::root::Root;
@@ -74,7 +74,7 @@ fn read_tree(
     result_place: Place,
     kind: ClauseKind,
     olds: u32,
-) -> Result<(Tree, u32), FieldRefusal>
+) -> Result<(Tree, u32), UnitRefusal>
     requires short { length bytes.now ≤ 2147483647 }
     requires inside { at ≤ length bytes.now }
     requires few { olds ≤ 64 }
@@ -84,7 +84,7 @@ fn read_tree(
     let (roots, next) = read_roots(alloc, form, bytes, at)?;
     match kept_tree(alloc, &roots, args, result_place, kind, olds)? {
         Some(tree) => Ok((tree, next)),
-        None => Err(FieldFault::Form(at).into()),
+        None => Err(UnitFault::Form(at).into()),
     }
 }
 
@@ -100,7 +100,7 @@ fn read_clause(
     args: &[Place],
     result_place: Place,
     olds: u32,
-) -> Result<(Clause, u32), FieldRefusal>
+) -> Result<(Clause, u32), UnitRefusal>
     requires short { length bytes.now ≤ 2147483647 }
     requires few { olds ≤ 64 }
     ensures { JudgesOrNoMemory result (first_of (clause_field list form args.now result_place olds bytes.now at).tests)
@@ -108,7 +108,7 @@ fn read_clause(
 {
     let number = u8_field(bytes, at)?;
     let Some(kind) = list.kind_of_number(number) else {
-        return Err(FieldFault::Form(at).into());
+        return Err(UnitFault::Form(at).into());
     };
     let (tree, next) = read_tree(alloc, form, bytes, at + 1, args, result_place, kind, olds)?;
     Ok((Clause { kind, tree }, next))
@@ -126,7 +126,7 @@ fn read_each(
     count: u8,
     args: &[Place],
     result_place: Place,
-) -> Result<(Vec<Clause>, u32), FieldRefusal>
+) -> Result<(Vec<Clause>, u32), UnitRefusal>
     requires short { length bytes.now ≤ 2147483647 }
     requires inside { start ≤ length bytes.now }
     ensures { JudgesOrNoMemory result (first_of (clause_fields list form count args.now result_place bytes.now start).tests)
@@ -155,14 +155,14 @@ pub fn read_clauses(
     at: u32,
     args: &[Place],
     result_place: Place,
-) -> Result<(Vec<Clause>, u32), FieldRefusal>
+) -> Result<(Vec<Clause>, u32), UnitRefusal>
     requires short { length bytes.now ≤ 2147483647 }
     ensures { JudgesOrNoMemory result (first_of (clauses_field list form args.now result_place bytes.now at).tests)
         (λ read. IsRead bytes.now (clauses_field list form args.now result_place bytes.now at) read.0.items read.1) }
 {
     let count = u8_field(bytes, at)?;
     if !list.may_count(count) {
-        return Err(FieldFault::Form(at).into());
+        return Err(UnitFault::Form(at).into());
     }
     read_each(alloc, list, form, bytes, at + 1, count, args, result_place)
 }

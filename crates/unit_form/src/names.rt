@@ -5,7 +5,7 @@ ghost use Rattle.cc_base.specs.Tests.{first_of, Judges};
 ghost use Rattle.unit_form.specs.Fields.{graphic_tests, is_graphic, name_field};
 ghost use Rattle.unit_form.specs.Parses.{IsRead};
 
-use crate::field_fault::FieldFault;
+use crate::unit_fault::UnitFault;
 use crate::numbers::{bytes_field, u16_field};
 
 /// Returns whether a byte may stand in a name: a graphic character of ASCII.
@@ -17,13 +17,13 @@ fn is_graphic(byte: u8) -> bool
 
 /// Tests that every byte of a text, which begins at this offset, may stand in a name.
 #[tactic(auto, unfolding(cc_base::specs::Tests::first_of, crate::specs::Fields::graphic_tests))]
-fn check_graphic(at: u32, text: &[u8]) -> Result<(), FieldFault>
+fn check_graphic(at: u32, text: &[u8]) -> Result<(), UnitFault>
     requires { at + length text.now < 2 ^ 32 }
     ensures { Judges result (first_of (graphic_tests at text.now)) (λ _. ⊤) }
 {
     for (i, byte) in text.iter().enumerate() {
         if !is_graphic(*byte) {
-            return Err(FieldFault::Form(at + i as u32));
+            return Err(UnitFault::Form(at + i as u32));
         }
     }
     Ok(())
@@ -31,7 +31,7 @@ fn check_graphic(at: u32, text: &[u8]) -> Result<(), FieldFault>
 
 /// A name, after its length, and the offset after it.
 #[tactic(auto, using(cc_base::proofs::TestLemmas::appended), unfolding(crate::specs::Fields::name_field))]
-pub fn read_name(bytes: &[u8], at: u32) -> Result<(&[u8], u32), FieldFault>
+pub fn read_name(bytes: &[u8], at: u32) -> Result<(&[u8], u32), UnitFault>
     requires short { length bytes.now ≤ 2147483647 }
     ensures { Judges result (first_of (name_field bytes.now at).tests)
         (λ read. IsRead bytes.now (name_field bytes.now at) read.0.now read.1) }

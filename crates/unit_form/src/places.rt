@@ -6,7 +6,7 @@ ghost use Rattle.unit_form.specs.Fields.{place_field, variable_field, variable_f
 ghost use Rattle.cil_model.specs.Limits.{MAX_VARIABLES};
 ghost use Rattle.unit_form.specs.Parses.{IsRead};
 
-use crate::field_fault::{FieldFault, FieldRefusal};
+use crate::unit_fault::{UnitFault, UnitRefusal};
 use crate::form::UnitForm;
 use crate::numbers::{count_field, u8_field};
 use cil_model::{MAX_VARIABLES, Place};
@@ -14,24 +14,24 @@ use std::alloc::Global;
 
 /// The place of a result, in one byte.
 #[tactic(auto, using(cc_base::proofs::TestLemmas::appended, cc_base::proofs::TestLemmas::first_tests), unfolding(crate::specs::Fields::place_field, crate::specs::Fields::u8_field))]
-pub fn read_place(bytes: &[u8], at: u32) -> Result<Place, FieldFault>
+pub fn read_place(bytes: &[u8], at: u32) -> Result<Place, UnitFault>
     ensures { Judges result (first_of (place_field bytes.now at).tests) (λ place. IsRead bytes.now (place_field bytes.now at) place (at + 1)) }
 {
     let number = u8_field(bytes, at)?;
     match Place::of_number(number) {
         Some(place) => Ok(place),
-        None => Err(FieldFault::Form(at)),
+        None => Err(UnitFault::Form(at)),
     }
 }
 
 /// The place of a variable, in one byte. It is not void.
 #[tactic(auto, using(cc_base::proofs::TestLemmas::appended, cc_base::proofs::TestLemmas::first_tests), unfolding(crate::specs::Fields::variable_field))]
-fn read_variable(bytes: &[u8], at: u32) -> Result<Place, FieldFault>
+fn read_variable(bytes: &[u8], at: u32) -> Result<Place, UnitFault>
     ensures { Judges result (first_of (variable_field bytes.now at).tests) (λ place. IsRead bytes.now (variable_field bytes.now at) place (at + 1)) }
 {
     let place = read_place(bytes, at)?;
     if place == Place::Void {
-        return Err(FieldFault::Form(at));
+        return Err(UnitFault::Form(at));
     }
     Ok(place)
 }
@@ -43,7 +43,7 @@ fn read_each(
     bytes: &[u8],
     start: u32,
     count: u16,
-) -> Result<(Vec<Place>, u32), FieldRefusal>
+) -> Result<(Vec<Place>, u32), UnitRefusal>
     requires short { length bytes.now ≤ 2147483647 }
     requires inside { start ≤ length bytes.now }
     ensures { JudgesOrNoMemory result (first_of (variable_fields count bytes.now start).tests)
@@ -67,7 +67,7 @@ pub fn read_variables(
     bytes: &[u8],
     at: u32,
     others: usize,
-) -> Result<(Vec<Place>, u32), FieldRefusal>
+) -> Result<(Vec<Place>, u32), UnitRefusal>
     requires short { length bytes.now ≤ 2147483647 }
     requires few { others ≤ MAX_VARIABLES }
     ensures { JudgesOrNoMemory result (first_of (variables_field form others bytes.now at).tests)
@@ -75,7 +75,7 @@ pub fn read_variables(
 {
     let (count, start) = count_field(form, bytes, at)?;
     if others + usize::from(count) > MAX_VARIABLES {
-        return Err(FieldFault::Form(at).into());
+        return Err(UnitFault::Form(at).into());
     }
     read_each(alloc, bytes, start, count)
 }

@@ -9,7 +9,7 @@ ghost use Rattle.unit_form.specs.Parses.{IsRead};
 ghost use Rattle.unit_form.specs.Roots.{told};
 ghost use Rattle.unit_form.specs.TreeFields.{bare_root, is_tag, operand_field, operand_size, root_field, root_of};
 
-use crate::field_fault::FieldFault;
+use crate::unit_fault::UnitFault;
 use crate::form::UnitForm;
 use crate::numbers::{bytes_field, u8_field};
 use crate::root::{Root, operator_of_byte, unary_of_byte};
@@ -89,7 +89,7 @@ fn root_of(form: UnitForm, tag: u8, operand: &[u8]) -> Option<Root>
 
 /// The root of a tag whose operand stands at this offset, and the offset after it.
 #[tactic(auto, using(crate::proofs::Operands::operand_cut, crate::proofs::Operands::operand_broken, crate::proofs::Operands::operand_read))]
-fn read_operand(form: UnitForm, bytes: &[u8], at: u32, tag: u8) -> Result<(Root, u32), FieldFault>
+fn read_operand(form: UnitForm, bytes: &[u8], at: u32, tag: u8) -> Result<(Root, u32), UnitFault>
     requires short { length bytes.now ≤ 2147483647 }
     ensures { Judges result (first_of (operand_field form tag bytes.now at).tests) (λ read. IsRead bytes.now (operand_field form tag bytes.now at) (told read.0) read.1) }
 {
@@ -97,7 +97,7 @@ fn read_operand(form: UnitForm, bytes: &[u8], at: u32, tag: u8) -> Result<(Root,
     let operand = bytes_field(bytes, at, size)?;
     match root_of(form, tag, operand) {
         Some(root) => Ok((root, at + size)),
-        None => Err(FieldFault::Form(at)),
+        None => Err(UnitFault::Form(at)),
     }
 }
 
@@ -110,13 +110,13 @@ fn is_tag(tag: u8) -> bool
 
 /// The root at this offset, and the offset after it.
 #[tactic(auto, using(cc_base::proofs::TestLemmas::appended, cc_base::proofs::TestLemmas::first_tests), unfolding(crate::specs::TreeFields::root_field))]
-pub fn read_root(form: UnitForm, bytes: &[u8], at: u32) -> Result<(Root, u32), FieldFault>
+pub fn read_root(form: UnitForm, bytes: &[u8], at: u32) -> Result<(Root, u32), UnitFault>
     requires short { length bytes.now ≤ 2147483647 }
     ensures { Judges result (first_of (root_field form bytes.now at).tests) (λ read. IsRead bytes.now (root_field form bytes.now at) (told read.0) read.1) }
 {
     let tag = u8_field(bytes, at)?;
     if !is_tag(tag) {
-        return Err(FieldFault::Form(at));
+        return Err(UnitFault::Form(at));
     }
     read_operand(form, bytes, at + 1, tag)
 }

@@ -5,7 +5,7 @@ ghost use Rattle.cc_base.specs.Tests.{first_of, JudgesOrNoMemory};
 ghost use Rattle.unit_form.specs.Roots.{told};
 ghost use Rattle.unit_form.specs.TreeFields.{kept_with, tree_roots};
 
-use crate::field_fault::{FieldFault, FieldRefusal};
+use crate::unit_fault::{UnitFault, UnitRefusal};
 use crate::form::UnitForm;
 use crate::root::Root;
 use crate::root_reader::read_root;
@@ -32,7 +32,7 @@ pub fn read_roots(
     form: UnitForm,
     bytes: &[u8],
     start: u32,
-) -> Result<(Vec<Root>, u32), FieldRefusal>
+) -> Result<(Vec<Root>, u32), UnitRefusal>
     requires short { length bytes.now ≤ 2147483647 }
     requires inside { start ≤ length bytes.now }
     ensures { JudgesOrNoMemory result (first_of (tree_roots form bytes.now start).tests)
@@ -53,5 +53,5 @@ pub fn read_roots(
     if trees == 0 {
         return Ok((roots, at));
     }
-    Err(FieldFault::Short(at).into())
+    Err(UnitFault::Short(at).into())
 }

@@ -14,7 +14,7 @@ ghost use Rattle.unit_form.specs.UnitFields.{added_field, code_field, end_tests,
 use crate::callees::read_callees;
 use crate::clause_list::ClauseList;
 use crate::clauses::read_clauses;
-use crate::field_fault::{FieldFault, FieldRefusal};
+use crate::unit_fault::{UnitFault, UnitRefusal};
 use crate::form::UnitForm;
 use crate::names::read_name;
 use crate::numbers::{bytes_field, count_field, skip_field, u16_field, u32_field};
@@ -47,22 +47,22 @@ pub struct UnitFields<'a> {
 
 /// The form of the file, by its first four bytes, `CCU1`, `CCU2` or `CCU3`.
 #[tactic(auto, using(cc_base::proofs::TestLemmas::first_tests), unfolding(crate::specs::UnitFields::magic_tests, crate::specs::Forms::form_of))]
-fn read_magic(bytes: &[u8]) -> Result<UnitForm, FieldFault>
+fn read_magic(bytes: &[u8]) -> Result<UnitForm, UnitFault>
     ensures { Judges result (first_of (magic_tests bytes.now)) (λ form. form ≡ form_of bytes.now) }
 {
     skip_field(bytes, 0, 4)?;
     if bytes[0] != b'C' {
-        return Err(FieldFault::Form(0));
+        return Err(UnitFault::Form(0));
     }
     if bytes[1] != b'C' {
-        return Err(FieldFault::Form(1));
+        return Err(UnitFault::Form(1));
     }
     if bytes[2] != b'U' {
-        return Err(FieldFault::Form(2));
+        return Err(UnitFault::Form(2));
     }
     match UnitForm::of_number(bytes[3]) {
         Some(form) => Ok(form),
-        None => Err(FieldFault::Version(3)),
+        None => Err(UnitFault::Version(3)),
     }
 }
 
@@ -73,28 +73,28 @@ fn read_max_stack(
     bytes: &[u8],
     at: u32,
     variables: usize,
-) -> Result<(u16, u32), FieldFault>
+) -> Result<(u16, u32), UnitFault>
     requires short { length bytes.now ≤ 2147483647 }
     requires few { variables ≤ MAX_VARIABLES }
     ensures { Judges result (first_of (max_stack_field form variables bytes.now at).tests) (λ read. IsRead bytes.now (max_stack_field form variables bytes.now at) read.0 read.1) }
 {
     let (size, next) = count_field(form, bytes, at)?;
     if variables + usize::from(size) > MAX_VARIABLES {
-        return Err(FieldFault::Form(at));
+        return Err(UnitFault::Form(at));
     }
     Ok((size, next))
 }
 
 /// The code, after its length, and the offset after it.
 #[tactic(auto, using(cc_base::proofs::TestLemmas::appended, cc_base::proofs::TestLemmas::first_tests), unfolding(crate::specs::UnitFields::code_field))]
-fn read_code(bytes: &[u8], at: u32) -> Result<(&[u8], u32), FieldFault>
+fn read_code(bytes: &[u8], at: u32) -> Result<(&[u8], u32), UnitFault>
     requires short { length bytes.now ≤ 2147483647 }
     ensures { Judges result (first_of (code_field bytes.now at).tests)
         (λ read. IsRead bytes.now (code_field bytes.now at) read.0.now read.1 × (length read.0.now ≤ MAX_CODE_BYTES) × (at + 4 + length read.0.now ≤ length bytes.now)) }
 {
     let count = u32_field(bytes, at)?;
     if count as usize > MAX_CODE_BYTES {
-        return Err(FieldFault::Form(at));
+        return Err(UnitFault::Form(at));
     }
     let start = at + 4;
     let code = bytes_field(bytes, start, count)?;
@@ -111,7 +111,7 @@ fn read_added(
     at: u32,
     args: &[Place],
     result_place: Place,
-) -> Result<(Vec<Clause>, u32), FieldRefusal>
+) -> Result<(Vec<Clause>, u32), UnitRefusal>
     requires short { length bytes.now ≤ 2147483647 }
     requires inside { at ≤ length bytes.now }
     ensures { JudgesOrNoMemory result (first_of (added_field form args.now result_place bytes.now at).tests)
@@ -135,18 +135,18 @@ fn read_added(
 
 /// Tests that nothing stands from this offset on.
 #[tactic(auto, using(cc_base::proofs::TestLemmas::first_tests), unfolding(crate::specs::UnitFields::end_tests))]
-fn check_end(bytes: &[u8], at: u32) -> Result<(), FieldFault>
+fn check_end(bytes: &[u8], at: u32) -> Result<(), UnitFault>
     ensures { Judges result (first_of (end_tests bytes.now at)) (λ _. ⊤) }
 {
     if bytes.len() > at as usize {
-        return Err(FieldFault::Form(at));
+        return Err(UnitFault::Form(at));
     }
     Ok(())
 }
 
 /// The fields behind the magic of this form, or the first fault among them.
 #[tactic(auto, using(cc_base::proofs::TestLemmas::appended, cc_base::proofs::TestLemmas::carried), unfolding(crate::specs::UnitFields::fields_in))]
-fn read_in(alloc: Global, form: UnitForm, bytes: &[u8]) -> Result<UnitFields<'_>, FieldRefusal>
+fn read_in(alloc: Global, form: UnitForm, bytes: &[u8]) -> Result<UnitFields<'_>, UnitRefusal>
     requires short { length bytes.now ≤ 2147483647 }
     ensures judged { JudgesOrNoMemory result (first_of (fields_in form bytes.now).tests) (λ fields. fields_told fields ≡ (fields_in form bytes.now).value) }
     ensures code { IfOk result (IsCodeWithin bytes.now) }
@@ -179,7 +179,7 @@ fn read_in(alloc: Global, form: UnitForm, bytes: &[u8]) -> Result<UnitFields<'_>
 
 /// The magic and the fields, or the first fault among them.
 #[tactic(auto, using(cc_base::proofs::TestLemmas::appended, cc_base::proofs::TestLemmas::carried), unfolding(crate::specs::UnitFields::unit_fields))]
-fn read_first(alloc: Global, bytes: &[u8]) -> Result<UnitFields<'_>, FieldRefusal>
+fn read_first(alloc: Global, bytes: &[u8]) -> Result<UnitFields<'_>, UnitRefusal>
     requires short { length bytes.now ≤ 2147483647 }
     ensures judged { JudgesOrNoMemory result (first_of (unit_fields bytes.now).tests) (λ fields. fields_told fields ≡ (unit_fields bytes.now).value) }
     ensures code { IfOk result (IsCodeWithin bytes.now) }
@@ -191,7 +191,7 @@ fn read_first(alloc: Global, bytes: &[u8]) -> Result<UnitFields<'_>, FieldRefusa
 /// The fields of a unit file in one of the forms, or the first fault among them.
 ///
 /// Cost: linear in the length of the file. The name and the code are not copied.
-pub fn read_fields(alloc: Global, bytes: &[u8]) -> Result<UnitFields<'_>, FieldRefusal>
+pub fn read_fields(alloc: Global, bytes: &[u8]) -> Result<UnitFields<'_>, UnitRefusal>
     requires short { length bytes.now ≤ 2147483647 }
     // They are read where no test of the list fails; a fault is that of the first test that does.
     ensures judged { JudgesOrNoMemory result (first_of (unit_fields bytes.now).tests) (λ fields. fields_told fields ≡ (unit_fields bytes.now).value) }

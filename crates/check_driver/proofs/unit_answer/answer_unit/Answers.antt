@@ -1,7 +1,7 @@
 use Rattle.std.proofs.Common.{◌≡◌, Some, inr}
 use Rattle.answer_lines.specs.Answers.{refused_line}
 use Rattle.assembly_answers.specs.FaultText.{unit_fault_text}
-use Rattle.method_unit.specs.Faults.{fault_at}
+use Rattle.unit_form.specs.Faults.{fault_at}
 use Rattle.method_unit.specs.UnitFile.{first_unit_fault}
 use Rattle.answer_lines.proofs.Writings.{gives_error}
 use Rattle.check_driver.proofs.SpelledUnits.{are_spelled}

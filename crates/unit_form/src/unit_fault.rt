@@ -2,12 +2,10 @@
 
 ghost use Rattle.std.specs.Prelude.{◌≡◌};
 ghost use Rattle.cc_base.specs.declared.refusal.Refusal.TheVariants.{Bad};
-ghost use Rattle.method_unit.specs.Faults.{fault_at};
-ghost use Rattle.method_unit.specs.UnitFile.{field_fault};
+ghost use Rattle.unit_form.specs.Faults.{fault_at};
 
 use cc_base::Refusal;
 use thiserror::Error;
-use unit_form::FieldFault;
 
 /// The first thing that is wrong with a unit file, with its offset in the file.
 #[derive(Clone, Copy, Debug, PartialEq, Eq, Error)]
@@ -35,20 +33,8 @@ impl UnitFault {
     }
 }
 
-/// Why a unit was not read.
+/// Why a unit was not read: its first fault, or memory ran out.
 pub type UnitRefusal = Refusal<UnitFault>;
-
-impl From<FieldFault> for UnitFault {
-    ghost from_gives = { λ fault same. same ≡ field_fault fault };
-
-    fn from(fault: FieldFault) -> UnitFault {
-        match fault {
-            FieldFault::Short(offset) => UnitFault::Short(offset),
-            FieldFault::Form(offset) => UnitFault::Form(offset),
-            FieldFault::Version(offset) => UnitFault::Version(offset),
-        }
-    }
-}
 
 impl From<UnitFault> for Refusal<UnitFault> {
     ghost from_gives = { λ fault refusal. refusal ≡ Bad fault };

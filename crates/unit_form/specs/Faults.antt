@@ -1,7 +1,7 @@
 -- Where a fault stands.
 use Rattle.std.specs.Prelude.{ℕ}
-use Rattle.method_unit.specs.declared.unit_fault.UnitFault.{UnitFault}
-use Rattle.method_unit.specs.declared.unit_fault.UnitFault.TheVariants.{Short, Form, Version}
+use Rattle.unit_form.specs.declared.unit_fault.UnitFault.{UnitFault}
+use Rattle.unit_form.specs.declared.unit_fault.UnitFault.TheVariants.{Short, Form, Version}
 
 -- The offset in the file that a fault names.
 abbrev pub fault_at : UnitFault → ℕ
