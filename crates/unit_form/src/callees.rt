@@ -7,10 +7,10 @@ ghost use Rattle.unit_form.specs.Parses.{IsRead};
 
 use crate::clause_list::ClauseList;
 use crate::clauses::read_clauses;
-use crate::unit_fault::UnitRefusal;
 use crate::form::UnitForm;
 use crate::names::read_name;
 use crate::places::{read_place, read_variables};
+use crate::unit_fault::UnitRefusal;
 use cil_model::{CalleeInfo, List};
 use std::alloc::Global;
 

@@ -9,12 +9,12 @@ ghost use Rattle.unit_form.specs.Roots.{told};
 ghost use Rattle.unit_form.specs.TreeFields.{tree_of_roots, tree_roots};
 
 use crate::clause_list::ClauseList;
-use crate::unit_fault::{UnitFault, UnitRefusal};
 use crate::form::UnitForm;
 use crate::numbers::u8_field;
 use crate::root::Root;
 use crate::tree_builder::tree_of_roots;
 use crate::tree_reader::read_roots;
+use crate::unit_fault::{UnitFault, UnitRefusal};
 use cil_model::{Clause, ClauseKind, Kind, MAX_CONDITIONS, MAX_NODES, MAX_OLD_VALUES, Place, Tree};
 use std::alloc::{AllocError, Global};
 

@@ -5,8 +5,8 @@ ghost use Rattle.cc_base.specs.Tests.{first_of, Judges};
 ghost use Rattle.unit_form.specs.Fields.{graphic_tests, is_graphic, name_field};
 ghost use Rattle.unit_form.specs.Parses.{IsRead};
 
-use crate::unit_fault::UnitFault;
 use crate::numbers::{bytes_field, u16_field};
+use crate::unit_fault::UnitFault;
 
 /// Returns whether a byte may stand in a name: a graphic character of ASCII.
 fn is_graphic(byte: u8) -> bool

@@ -5,8 +5,8 @@ ghost use Rattle.cc_base.specs.Tests.{first_of, Judges};
 ghost use Rattle.unit_form.specs.Fields.{bytes_field, count_field, u16_field, u32_field, u8_field};
 ghost use Rattle.unit_form.specs.Parses.{field, IsRead};
 
-use crate::unit_fault::UnitFault;
 use crate::form::UnitForm;
+use crate::unit_fault::UnitFault;
 
 /// Tests that a field of this many bytes does not pass the end of the file.
 #[tactic(auto, unfolding(crate::specs::Parses::field))]

@@ -6,9 +6,9 @@ ghost use Rattle.unit_form.specs.Fields.{place_field, variable_field, variable_f
 ghost use Rattle.cil_model.specs.Limits.{MAX_VARIABLES};
 ghost use Rattle.unit_form.specs.Parses.{IsRead};
 
-use crate::unit_fault::{UnitFault, UnitRefusal};
 use crate::form::UnitForm;
 use crate::numbers::{count_field, u8_field};
+use crate::unit_fault::{UnitFault, UnitRefusal};
 use cil_model::{MAX_VARIABLES, Place};
 use std::alloc::Global;
 

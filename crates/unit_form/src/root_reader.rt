@@ -9,10 +9,10 @@ ghost use Rattle.unit_form.specs.Parses.{IsRead};
 ghost use Rattle.unit_form.specs.Roots.{told};
 ghost use Rattle.unit_form.specs.TreeFields.{bare_root, is_tag, operand_field, operand_size, root_field, root_of};
 
-use crate::unit_fault::UnitFault;
 use crate::form::UnitForm;
 use crate::numbers::{bytes_field, u8_field};
 use crate::root::{Root, operator_of_byte, unary_of_byte};
+use crate::unit_fault::UnitFault;
 use cil_model::Place;
 
 /// Returns how many bytes a count has.

@@ -5,10 +5,10 @@ ghost use Rattle.cc_base.specs.Tests.{first_of, JudgesOrNoMemory};
 ghost use Rattle.unit_form.specs.Roots.{told};
 ghost use Rattle.unit_form.specs.TreeFields.{kept_with, tree_roots};
 
-use crate::unit_fault::{UnitFault, UnitRefusal};
 use crate::form::UnitForm;
 use crate::root::Root;
 use crate::root_reader::read_root;
+use crate::unit_fault::{UnitFault, UnitRefusal};
 use cil_model::MAX_NODES;
 use std::alloc::{AllocError, Global};
 

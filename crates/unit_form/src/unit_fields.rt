@@ -14,11 +14,11 @@ ghost use Rattle.unit_form.specs.UnitFields.{added_field, code_field, end_tests,
 use crate::callees::read_callees;
 use crate::clause_list::ClauseList;
 use crate::clauses::read_clauses;
-use crate::unit_fault::{UnitFault, UnitRefusal};
 use crate::form::UnitForm;
 use crate::names::read_name;
 use crate::numbers::{bytes_field, count_field, skip_field, u16_field, u32_field};
 use crate::places::{read_place, read_variables};
+use crate::unit_fault::{UnitFault, UnitRefusal};
 use cil_model::{CalleeInfo, Clause, MAX_CODE_BYTES, MAX_VARIABLES, Place};
 use std::alloc::Global;
 
