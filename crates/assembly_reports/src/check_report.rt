@@ -1,4 +1,7 @@
 //! What is found of assemblies, and the reports of it.
+//!
+//! A report is printed when all of it is made: a call that lacks memory before prints nothing of it. Each line is one
+//! put, and none waits in a buffer, which could be refused after its put was answered.
 
 ghost use Rattle.std.specs.Prelude.{◌≡◌, ◌++◌, ◌<◌, ◌^◌, All, IfOk, None, OnOk, Some, false, if◌then◌else◌, length, map, slice_get, true, zip};
 ghost use Rattle.std.specs.List.{flat_map, list_all};

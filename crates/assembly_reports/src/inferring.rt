@@ -3,6 +3,10 @@
 //! What is inferred comes from the states by which units are judged, those of the cache or else a finder's, and the
 //! clauses `inferred` and `checked_inferred` of `run_words` name that pick. With some pick they would not say that the
 //! Ensures of which they speak are those that the report prints.
+//!
+//! `--infer` is a word of `check`, not a command: its reports are `report_text` over other entries, whose units have
+//! clauses that were added. What is printed of these follows from the unit, so the report of a unit file marks them
+//! too.
 
 ghost use Rattle.std.specs.Prelude.{◌≡◌, ◌-◌, ◌<◌, ◌^◌, [], All, IfOk, None, OnOk, Some, get_or, if◌then◌else◌, length, map, slice_get, true};
 ghost use Rattle.answer_lines.specs.LineCounts.{AreLines};

@@ -1,4 +1,7 @@
 //! The answer to `check FILE..`, with `--show` or without, with a cache and a proof file or without.
+//!
+//! With `--infer` files are reported one by one: the units of a file as they are written, then with what is inferred,
+//! and its report, before the next file. So a second file that is refused leaves the first report.
 
 #![tactic(auto, using(cc_base::proofs::SinkLemmas::sinks, cc_base::proofs::CountLemmas::counts, answer_lines::proofs::LineLemmas::puts_none))]
 

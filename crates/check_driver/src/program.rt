@@ -1,4 +1,8 @@
 //! The top call: the program's answer to its words.
+//!
+//! Of files that do not tell what they hold, `output` says that the answer is the expected one for something under each
+//! name, one thing for each read: what stands under a name may change between two reads. For `MapFiles` and `VecSink`
+//! it is exact.
 
 #![tactic(auto, using(cc_base::proofs::SinkLemmas::sinks, cc_base::proofs::CountLemmas::counts, answer_lines::proofs::LineLemmas::puts_none))]
 
