@@ -13,6 +13,7 @@ mod unknown_values;
 
 pub use array_contents::{Contents, Segs};
 pub use invariant::Invariant;
+pub use obligations::Judged;
 pub use parts::Parts;
 pub use state::AbsState;
 pub use state_facts::{Reference, Var};

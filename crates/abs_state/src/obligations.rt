@@ -14,6 +14,15 @@ use cil_model::BinOp;
 use domain_api::{Expr, NoMemory};
 use state_obligations::{Condition, Operation, assume, entails};
 
+/// What the conditions of an operation find in a state.
+#[derive(Drop)]
+pub struct Judged {
+    /// The state that assumes all of them.
+    pub state: AbsState,
+    /// Whether each is entailed in the state that assumes those before it.
+    pub entailed: bool,
+}
+
 impl AbsState {
     /// Returns whether a condition of operands is entailed: then it is met wherever the state holds. Where nothing is
     /// reached, each is.
@@ -37,20 +46,32 @@ impl AbsState {
         }
     }
 
-    /// Assumes that a condition of operands is met. Where it cannot be, nothing is reached.
+    /// The state that assumes that a condition of operands is met. Where it cannot be, nothing is reached.
+    ///
+    /// Cost: that of one comparison or two. Nothing is copied.
     ///
     /// # Errors
     ///
-    /// Want of memory. What is assumed then is left open.
-    pub fn assume_met(&mut self, condition: Condition) -> Result<(), NoMemory>
-        requires there { ForSome self.old (λ known. IsThere known condition) }
-        ensures ok { OnOk result (self.new ≡ rule.assume condition self.old) }
-        ensures keeps { OnOk result (AssumesIt condition self.old self.new) }
+    /// Want of memory. The state is let go then.
+    pub fn assume_met(self, condition: Condition) -> Result<AbsState, NoMemory>
+        requires there { ForSome self (λ known. IsThere known condition) }
+        ensures ok { IfOk result (λ after. after ≡ rule.assume condition self) }
+        ensures keeps { IfOk result (λ after. AssumesIt condition self after) }
     {
-        self.assume_condition(condition)
+        self.met_by_rule(condition)
     }
 
-    /// What `assume_met` does, without its law. `assume_met` proves that.
+    /// What `assume_met` answers, without its law. `assume_met` proves that.
+    fn met_by_rule(mut self, condition: Condition) -> Result<AbsState, NoMemory>
+        requires there { ForSome self (λ known. IsThere known condition) }
+        ensures ok { IfOk result (λ after. after ≡ rule.assume condition self) }
+        ensures form { ForSome self HasForm }
+    {
+        self.assume_condition(condition)?;
+        Ok(self)
+    }
+
+    /// Assumes that a condition of operands is met, in place. Here as below want of memory leaves some of it assumed.
     fn assume_condition(&mut self, condition: Condition) -> Result<(), NoMemory>
         requires there { ForSome self.old (λ known. IsThere known condition) }
         ensures ok { OnOk result (self.new ≡ rule.assume condition self.old) }
@@ -130,25 +151,41 @@ impl AbsState {
         }
     }
 
-    /// Returns whether each condition of an operation is entailed in the state that assumes those before it, in the
-    /// order in which the machine tests them: then it does not fault wherever the state held. The state then assumes
-    /// all.
+    /// What `judge` answers, without its laws. `judge` proves these.
+    fn judged_by_rule(mut self, operation: Operation) -> Result<Judged, NoMemory>
+        requires there { ForSome self (λ known. AreThere known (conditions_of operation)) }
+        ensures entailed { IfOk result (λ found. found.entailed ≡ (judged (conditions_of operation) self).entailed) }
+        ensures state { IfOk result (λ found. found.state ≡ (judged (conditions_of operation) self).state) }
+        ensures form { ForSome self HasForm }
+    {
+        if !self.reached() {
+            return Ok(Judged {
+                state: self,
+                entailed: true,
+            });
+        }
+        let entailed = self.judge_operation(operation)?;
+        Ok(Judged {
+            state: self,
+            entailed,
+        })
+    }
+
+    /// Judges each condition of an operation in the state that assumes those before it, in the order in which the
+    /// machine tests them. Where each is entailed, the operation does not fault wherever the state held.
     ///
-    /// Cost: that of each condition.
+    /// Cost: that of each condition. Nothing is copied.
     ///
     /// # Errors
     ///
-    /// Want of memory. What is assumed then is left open.
-    pub fn judge(&mut self, operation: Operation) -> Result<bool, NoMemory>
-        requires there { ForSome self.old (λ known. AreThere known (conditions_of operation)) }
-        ensures value { IfOk result (λ all. all ≡ (judged (conditions_of operation) self.old).entailed) }
-        ensures state { OnOk result (self.new ≡ (judged (conditions_of operation) self.old).state) }
-        ensures sound { IfOk result (λ all. all ≡ true → EntailsThem (conditions_of operation) self.old) }
-        ensures keeps { OnOk result (AssumesThem (conditions_of operation) self.old self.new) }
+    /// Want of memory. The state is let go then.
+    pub fn judge(self, operation: Operation) -> Result<Judged, NoMemory>
+        requires there { ForSome self (λ known. AreThere known (conditions_of operation)) }
+        ensures entailed { IfOk result (λ found. found.entailed ≡ (judged (conditions_of operation) self).entailed) }
+        ensures state { IfOk result (λ found. found.state ≡ (judged (conditions_of operation) self).state) }
+        ensures sound { IfOk result (λ found. found.entailed ≡ true → EntailsThem (conditions_of operation) self) }
+        ensures keeps { IfOk result (λ found. AssumesThem (conditions_of operation) self found.state) }
     {
-        if !self.reached() {
-            return Ok(true);
-        }
-        self.judge_operation(operation)
+        self.judged_by_rule(operation)
     }
 }

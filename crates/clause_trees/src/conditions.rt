@@ -1,6 +1,6 @@
 //! Conditions as values.
 
-ghost use Rattle.std.specs.Prelude.{◌≡◌, IfOk, IsSome, OnOk};
+ghost use Rattle.std.specs.Prelude.{◌≡◌, IfOk, IsSome, OnErr, OnOk};
 ghost use Rattle.std.specs.Option.{ForSome, option_and_then};
 ghost use Rattle.number_facts.specs.Ends.{range_of};
 ghost use Rattle.state_facts.specs.Forms.{HasNumber, HasVar};
@@ -25,10 +25,14 @@ pub(crate) enum Seen {
     Array(Place),
 }
 
-/// Assumes that a value is true: a number other than 0, or a reference other than null. Or that it is not.
+/// Assumes that a value is true: a number other than 0, or a reference other than null. Or that it is not. Of other
+/// values nothing is assumed.
+///
+/// Cost: that of one comparison. Want of memory leaves the state as it was.
 pub fn assume_true(state: &mut AbsState, value: Var, holds: bool) -> Result<(), NoMemory>
     requires there { ForSome state.old (λ known. HasVar known value) }
-    ensures { OnOk result (state.new ≡ option_and_then (rule.true_known holds value) state.old) }
+    ensures ok { OnOk result (state.new ≡ option_and_then (rule.true_known holds value) state.old) }
+    ensures err { OnErr result (state.new ≡ state.old) }
 {
     let zero = match value {
         Var::Number(_) => Var::Number(constant(0)),

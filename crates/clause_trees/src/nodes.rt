@@ -12,6 +12,8 @@ ghost use Rattle.frame_names.specs.declared.var.Var.TheVariants as vars;
 ghost use Rattle.state_facts.specs.Forms.{HasNumber, HasReference, HasVar};
 ghost use Rattle.state_facts.specs.Moves as moves;
 ghost use Rattle.state_facts.specs.States as states;
+ghost use Rattle.state_obligations.specs.Conditions.{AreThere, conditions_of};
+ghost use Rattle.state_obligations.specs.Judged.{judged};
 ghost use Rattle.clause_trees.specs.TreeValues as rule;
 ghost use Rattle.number_spans.specs.Constants as numbers;
 ghost use Rattle.number_spans.specs.Owed.{Divides, Shifts};
@@ -23,6 +25,7 @@ use cil_model::{BinOp, Place, UnOp};
 use domain_api::{Expr, NoMemory};
 use number_spans::constant;
 use state_obligations::Operation;
+use std::mem;
 
 /// A value that owes nothing.
 pub(crate) fn given(state: &mut AbsState, value: Var) -> Result<bool, NoMemory>
@@ -54,6 +57,19 @@ pub(crate) fn variable_if(state: &mut AbsState, index: Option<u32>) -> Result<bo
     }
 }
 
+/// Returns whether each condition of an operation is entailed in the state that assumes those before it. The state then
+/// assumes all.
+fn judge(state: &mut AbsState, operation: Operation) -> Result<bool, NoMemory>
+    requires there { ForSome state.old (λ known. AreThere known (conditions_of operation)) }
+    ensures value { IfOk result (λ all. all ≡ (judged (conditions_of operation) state.old).entailed) }
+    ensures state { OnOk result (state.new ≡ (judged (conditions_of operation) state.old).state) }
+{
+    let before = mem::replace(state, AbsState::nothing());
+    let found = before.judge(operation)?;
+    *state = found.state;
+    Ok(found.entailed)
+}
+
 /// Pushes the length of a reference.
 fn push_length(state: &mut AbsState, r: u32) -> Result<(), NoMemory>
     requires there { ForSome state.old (λ known. HasReference known r) }
@@ -75,7 +91,7 @@ fn length_of(state: &mut AbsState, r: u32) -> Result<bool, NoMemory>
     if !state.reached() {
         return Ok(true);
     }
-    let entailed = state.judge(Operation::Length(r))?;
+    let entailed = judge(state, Operation::Length(r))?;
     push_length(state, r)?;
     Ok(entailed)
 }
@@ -135,7 +151,7 @@ fn element_of(
     if !state.reached() {
         return Ok(true);
     }
-    let entailed = state.judge(Operation::Element(r, i))?;
+    let entailed = judge(state, Operation::Element(r, i))?;
     push_item(state, time, place, r, i)?;
     Ok(entailed)
 }
@@ -176,7 +192,7 @@ fn arithmetic(state: &mut AbsState, op: BinOp, a: Expr, b: Expr) -> Result<bool,
     if !state.reached() {
         return Ok(true);
     }
-    let entailed = state.judge(Operation::Binary(op, a, b))?;
+    let entailed = judge(state, Operation::Binary(op, a, b))?;
     push_result(state, op, a, b)?;
     Ok(entailed)
 }

@@ -1,6 +1,6 @@
 -- What is so of what a call makes is so of its answer.
 use Rattle.std.proofs.Common.{◌≡◌, Bool, true, sym, subst, ◌∙◌}
-use Rattle.std.specs.Prelude.{Result, Ok, Err, IfOk, OnOk}
+use Rattle.std.specs.Prelude.{Result, Ok, Err, IfOk}
 use Rattle.state_facts.specs.StateFacts.{State}
 
 pub so_where_shown : {E : Type 0} (result : Result Bool E) (made : Bool) (P : Type 0) → (made ≡ true → P)
@@ -12,8 +12,3 @@ pub so_of_made : {E : Type 0} (result : Result State E) (made : State) (P : Stat
     → IfOk result (λ new. new ≡ made) → IfOk result P
 so_of_made (Ok new) made P so same = subst P (sym same) so
 so_of_made (Err e) made P so same = same
-
-pub so_where_ok : {X E : Type 0} (result : Result X E) (made after : State) (P : State → Type 0) → P made
-    → OnOk result (after ≡ made) → OnOk result (P after)
-so_where_ok (Ok x) made after P so same = subst P (sym same) so
-so_where_ok (Err e) made after P so same = same

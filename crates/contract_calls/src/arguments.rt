@@ -1,6 +1,6 @@
 //! The arguments of a call, and the result of a return.
 
-ghost use Rattle.std.specs.Prelude.{◌≡◌, ◌*◌, ◌≤◌, OnOk, length};
+ghost use Rattle.std.specs.Prelude.{◌≡◌, ◌*◌, ◌≤◌, IfOk, OnOk, length};
 ghost use Rattle.std.specs.Option.{ForSome};
 ghost use Rattle.cil_model.specs.Limits.{MAX_VARIABLES};
 ghost use Rattle.clause_trees.specs.VariableKinds.{HasSameFormsIn};
@@ -48,40 +48,41 @@ fn put_from(state: &mut AbsState, first: u32, places: &[Place]) -> Result<(), No
 
 /// Puts the arguments of a call into the places of its parameters.
 #[tactic(auto, unfolding(crate::specs::Arguments::put_args), using(crate::proofs::AtCalls::none_put))]
-fn put_each(state: &mut AbsState, places: &[Place]) -> Result<(), NoMemory>
-    requires few { HasFew state.old }
+fn put_each(mut state: AbsState, places: &[Place]) -> Result<AbsState, NoMemory>
+    requires few { HasFew state }
     requires few_places { length places.now ≤ MAX_VARIABLES }
-    ensures ok { OnOk result (state.new ≡ rule.put_args places.now state.old) }
-    ensures form { ForSome state.old HasForm }
+    ensures ok { IfOk result (λ new. new ≡ rule.put_args places.now state) }
+    ensures form { ForSome state HasForm }
 {
     if !state.reached() {
-        return Ok(());
+        return Ok(state);
     }
-    let first = first_of(state, places.len());
-    put_from(state, first, places)
+    let first = first_of(&state, places.len());
+    put_from(&mut state, first, places)?;
+    Ok(state)
 }
 
-/// Puts the arguments of a call into the places of its parameters, as the machine does. They lie on top of the stack,
-/// the last one uppermost.
+/// The state in which the arguments of a call are put into the places of its parameters, as the machine does. They lie
+/// on top of the stack, the last one uppermost.
 ///
-/// Here as below the error is want of memory, after which the state is to be given up.
-pub fn put_args(state: &mut AbsState, places: &[Place]) -> Result<(), NoMemory>
-    requires few { HasFew state.old }
+/// Here as below the error is want of memory, where the state is let go, and nothing is copied.
+pub fn put_args(state: AbsState, places: &[Place]) -> Result<AbsState, NoMemory>
+    requires few { HasFew state }
     requires few_places { length places.now ≤ MAX_VARIABLES }
-    ensures value { OnOk result (state.new ≡ rule.put_args places.now state.old) }
-    ensures keeps { OnOk result (KeepsArgs places.now state.old state.new) }
+    ensures value { IfOk result (λ new. new ≡ rule.put_args places.now state) }
+    ensures keeps { IfOk result (λ new. KeepsArgs places.now state new) }
     // As many variables stay, of the same forms.
-    ensures forms { OnOk result (ForSome state.old (λ known. HasSameFormsIn known state.new)) }
+    ensures forms { IfOk result (λ new. ForSome state (λ known. HasSameFormsIn known new)) }
 {
     put_each(state, places)
 }
 
 /// Puts the result of a return into its place.
 #[tactic(auto, unfolding(crate::specs::Arguments::put_result))]
-fn put_one(state: &mut AbsState, place: Place) -> Result<(), NoMemory>
-    requires few { HasFew state.old }
-    ensures ok { OnOk result (state.new ≡ rule.put_result place state.old) }
-    ensures form { ForSome state.old HasForm }
+fn put_one(state: AbsState, place: Place) -> Result<AbsState, NoMemory>
+    requires few { HasFew state }
+    ensures ok { IfOk result (λ new. new ≡ rule.put_result place state) }
+    ensures form { ForSome state HasForm }
 {
     match place {
         Place::Void => put_each(state, &[]),
@@ -89,14 +90,14 @@ fn put_one(state: &mut AbsState, place: Place) -> Result<(), NoMemory>
     }
 }
 
-/// Puts what a return gives into the place of the result, as the machine does. It lies on top of the stack, unless this
-/// is the place of no value.
-pub fn put_result(state: &mut AbsState, place: Place) -> Result<(), NoMemory>
-    requires few { HasFew state.old }
-    ensures value { OnOk result (state.new ≡ rule.put_result place state.old) }
-    ensures keeps { OnOk result (KeepsResult place state.old state.new) }
+/// The state in which what a return gives is put into the place of the result, as the machine does. It lies on top of
+/// the stack, unless this is the place of no value.
+pub fn put_result(state: AbsState, place: Place) -> Result<AbsState, NoMemory>
+    requires few { HasFew state }
+    ensures value { IfOk result (λ new. new ≡ rule.put_result place state) }
+    ensures keeps { IfOk result (λ new. KeepsResult place state new) }
     // As many variables stay, of the same forms.
-    ensures forms { OnOk result (ForSome state.old (λ known. HasSameFormsIn known state.new)) }
+    ensures forms { IfOk result (λ new. ForSome state (λ known. HasSameFormsIn known new)) }
 {
     put_one(state, place)
 }

@@ -218,14 +218,14 @@ pub fn after_call(alloc: Global, state: AbsState, callee: &CalleeInfo) -> Result
 
 /// What a call makes of a state.
 #[tactic(auto, unfolding(crate::specs::CallStates::called))]
-fn whole(alloc: Global, mut state: AbsState, callee: &CalleeInfo) -> Result<AbsState, NoMemory>
+fn whole(alloc: Global, state: AbsState, callee: &CalleeInfo) -> Result<AbsState, NoMemory>
     requires formed { IsCallee callee.now }
     requires ready { CanCall callee.now state }
     ensures { IfOk result (λ new. new ≡ rule.called callee.now state) }
 {
-    put_args(&mut state, callee.args.as_slice())?;
-    let state = assume_all_requires(alloc, state, callee)?;
-    after_call(alloc, state, callee)
+    let put = put_args(state, callee.args.as_slice())?;
+    let required = assume_all_requires(alloc, put, callee)?;
+    after_call(alloc, required, callee)
 }
 
 /// The state behind a call that came back, from the one before it: the arguments are put, all Requires of the callee

@@ -101,13 +101,13 @@ pub fn assume_all_ensures(alloc: Global, state: AbsState, unit: &Unit) -> Result
 
 /// What a return makes of a state.
 #[tactic(auto, unfolding(crate::specs::CallStates::given_back))]
-fn whole_return(alloc: Global, mut state: AbsState, unit: &Unit) -> Result<AbsState, NoMemory>
+fn whole_return(alloc: Global, state: AbsState, unit: &Unit) -> Result<AbsState, NoMemory>
     requires formed { IsWellFormed unit.now }
     requires ready { CanReturn unit.now state }
     ensures { IfOk result (λ new. new ≡ rule.given_back unit.now state) }
 {
-    put_result(&mut state, unit.result)?;
-    assume_all_ensures(alloc, state, unit)
+    let put = put_result(state, unit.result)?;
+    assume_all_ensures(alloc, put, unit)
 }
 
 /// The state at a return once its Ensures were found true, from the one before it: the result is put into its place,

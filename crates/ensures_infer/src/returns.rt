@@ -49,8 +49,8 @@ fn push_returned(
     if !is_return(op) {
         return Ok(());
     }
-    let mut returned = state.copy(alloc)?;
-    put_result(&mut returned, unit.result)?;
+    let before = state.copy(alloc)?;
+    let returned = put_result(before, unit.result)?;
     push_reached(found, returned)
 }
 
@@ -60,20 +60,20 @@ fn push_each(
     found: &mut Vec<AbsState>,
     unit: &Unit,
     instrs: &[Instr],
-    state: &mut AbsState,
+    mut state: AbsState,
 ) -> Result<(), NoMemory>
     requires formed { IsWellFormed unit.now }
-    requires ready { CanJudge unit.now instrs.now state.old }
-    ensures { OnOk result (found.new.items ≡ found.old.items ++ rule.returns_from unit.now instrs.now state.old) }
+    requires ready { CanJudge unit.now instrs.now state }
+    ensures { OnOk result (found.new.items ≡ found.old.items ++ rule.returns_from unit.now instrs.now state) }
 {
     let [others @ .., last] = instrs else {
         return Ok(());
     };
     for instr in others {
-        push_returned(alloc, found, state, unit, &instr.op)?;
-        post(alloc, state, unit, &instr.op)?;
+        push_returned(alloc, found, &state, unit, &instr.op)?;
+        state = post(alloc, state, unit, &instr.op)?;
     }
-    push_returned(alloc, found, state, unit, &last.op)
+    push_returned(alloc, found, &state, unit, &last.op)
 }
 
 /// Returns whether one of the instructions returns.
@@ -100,8 +100,8 @@ fn push_block(
     if !has_return(instrs) {
         return Ok(());
     }
-    let mut before = state.copy(alloc)?;
-    push_each(alloc, found, &code.unit, instrs, &mut before)
+    let before = state.copy(alloc)?;
+    push_each(alloc, found, &code.unit, instrs, before)
 }
 
 /// The states at all returns that are reached, in the order of the code.

@@ -87,25 +87,25 @@ pub fn edge(
     check_state(alloc, &behind.state, told)
 }
 
-/// Takes the state through these instructions up to the one at an IL offset, and behind it.
+/// Takes a state through these instructions up to the one at an IL offset, and behind it.
 fn go_behind(
     alloc: Global,
-    state: &mut AbsState,
+    state: AbsState,
     unit: &Unit,
     instrs: &[Instr],
     at: u32,
-) -> Result<(), Failure>
+) -> Result<AbsState, Failure>
     requires few { length unit.now.args + length unit.now.locals + unit.now.max_stack ≤ MAX_VARIABLES }
-    requires ready { CanJudge unit.now instrs.now state.old }
+    requires ready { CanJudge unit.now instrs.now state }
 {
     let [first, others @ ..] = instrs else {
         return Err(Failure::Unmet("the instruction is there"));
     };
-    post(alloc, state, unit, &first.op)?;
+    let behind = post(alloc, state, unit, &first.op)?;
     if first.at == at {
-        return Ok(());
+        return Ok(behind);
     }
-    go_behind(alloc, state, unit, others, at)
+    go_behind(alloc, behind, unit, others, at)
 }
 
 /// The last block that starts at an IL offset or before it.
@@ -130,7 +130,7 @@ pub fn behind(
         return Err(Failure::Unmet("the instruction is there"));
     };
     fit_all(code, states)?;
-    let mut behind = states[block].copy(alloc)?;
-    go_behind(alloc, &mut behind, &code.unit, code.block(block as u32), at)?;
+    let begun = states[block].copy(alloc)?;
+    let behind = go_behind(alloc, begun, &code.unit, code.block(block as u32), at)?;
     check_state(alloc, &behind.norm(alloc)?, told)
 }

@@ -28,11 +28,11 @@ use unit_flow::UnitFlow;
 /// come.
 fn push_in_turn(
     found: &mut Vec<Verdict>,
-    state: &mut AbsState,
+    mut state: AbsState,
     unit: &Unit,
     instr: &Instr,
 ) -> Result<(), NoMemory>
-    ensures { OnOk result (found.new.items ≡ found.old.items ++ rule.own_verdicts unit.now instr.now state.old) }
+    ensures { OnOk result (found.new.items ≡ found.old.items ++ rule.own_verdicts unit.now instr.now state) }
 {
     for kind in faults_of(unit, &instr.op) {
         found.push(Verdict {
@@ -41,9 +41,9 @@ fn push_in_turn(
                 kind: *kind,
                 callee: None,
             },
-            proved: rules_out(state, unit, &instr.op, *kind),
+            proved: rules_out(&state, unit, &instr.op, *kind),
         })?;
-        avoid(state, unit, &instr.op, *kind)?;
+        state = avoid(state, unit, &instr.op, *kind)?;
     }
     Ok(())
 }
@@ -62,8 +62,7 @@ fn push_own(
     if faults_of(unit, &instr.op).is_empty() {
         return Ok(());
     }
-    let mut assumed = state.copy(alloc)?;
-    push_in_turn(found, &mut assumed, unit, instr)
+    push_in_turn(found, state.copy(alloc)?, unit, instr)
 }
 
 /// Appends a verdict for each clause that an instruction tests, by whether it is shown.
@@ -143,20 +142,20 @@ fn judge_instrs(
     found: &mut Vec<Verdict>,
     unit: &Unit,
     instrs: &[Instr],
-    state: &mut AbsState,
+    mut state: AbsState,
 ) -> Result<(), NoMemory>
     requires formed { IsWellFormed unit.now }
-    requires ready { CanJudge unit.now instrs.now state.old }
-    ensures { OnOk result (found.new.items ≡ found.old.items ++ rule.verdicts_from unit.now instrs.now state.old) }
+    requires ready { CanJudge unit.now instrs.now state }
+    ensures { OnOk result (found.new.items ≡ found.old.items ++ rule.verdicts_from unit.now instrs.now state) }
 {
     let [others @ .., last] = instrs else {
         return Ok(());
     };
     for instr in others {
-        push_verdicts(alloc, found, state, unit, instr)?;
-        post(alloc, state, unit, &instr.op)?;
+        push_verdicts(alloc, found, &state, unit, instr)?;
+        state = post(alloc, state, unit, &instr.op)?;
     }
-    push_verdicts(alloc, found, state, unit, last)
+    push_verdicts(alloc, found, &state, unit, last)
 }
 
 /// Appends the verdicts in a block, from its state.
@@ -172,8 +171,8 @@ fn judge_block(
     requires fits { Fits code.now block state.now }
     ensures { OnOk result (found.new.items ≡ found.old.items ++ rule.verdicts_of_block code.now state.now block) }
 {
-    let mut before = state.copy(alloc)?;
-    judge_instrs(alloc, found, &code.unit, code.block(block), &mut before)
+    let before = state.copy(alloc)?;
+    judge_instrs(alloc, found, &code.unit, code.block(block), before)
 }
 
 /// The verdicts in all blocks, in order.

@@ -1,6 +1,6 @@
 -- What is read of a state's stack is what the rules speak of.
 use Rattle.std.proofs.Common.{◌≡◌, ℕ, Option, Some, None, [], refl, sym, ap, subst, ◌∙◌, slice_get}
-use Rattle.std.specs.Prelude.{Result, Ok, Err, IfSome, OnOk, reverse}
+use Rattle.std.specs.Prelude.{Result, Ok, Err, IfOk, IfSome, reverse}
 use Rattle.std.specs.Option.{ForSome, option_and_then, option_map_or}
 use Rattle.cil_model.specs.UnitCalls.{unit_call}
 use Rattle.cil_model.specs.declared.instruction.BinOp.{BinOp}
@@ -136,7 +136,7 @@ condition_there kind op unit (Some known) (Some c) form is = λ x same.
 
 -- ---- what is made of them
 
-pub avoided_where_ok : {E : Type 0} (result : Result (Unit {0}) E) (unit : MethodUnit) (op : Op) (old made new : State) → OnOk result (new ≡ made)
-    → AssumesNoFault unit op old made → OnOk result (AssumesNoFault unit op old new)
-avoided_where_ok (Ok u) unit op old made new is sound = subst (AssumesNoFault unit op old) (sym is) sound
-avoided_where_ok (Err e) unit op old made new is sound = is
+pub avoided_where_ok : {E : Type 0} (result : Result State E) (unit : MethodUnit) (op : Op) (old made : State) → IfOk result (λ new. new ≡ made)
+    → AssumesNoFault unit op old made → IfOk result (λ new. AssumesNoFault unit op old new)
+avoided_where_ok (Ok new) unit op old made is sound = subst (AssumesNoFault unit op old) (sym is) sound
+avoided_where_ok (Err e) unit op old made is sound = is

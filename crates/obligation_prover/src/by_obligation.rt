@@ -85,9 +85,8 @@ fn clause_entailed(
     let Some(clause) = clause_of_fault(unit, test, kind) else {
         return Ok(false);
     };
-    let mut before = state.copy(alloc)?;
-    put_tested(&mut before, unit, test)?;
-    clause_shown(alloc, unit, test, clause, &before)
+    let put = put_tested(state.copy(alloc)?, unit, test)?;
+    clause_shown(alloc, unit, test, clause, &put)
 }
 
 /// The state where a clause is assumed, from the one before the instruction that tests it.
@@ -104,12 +103,12 @@ fn clause_met(
     requires ready { CanTest unit.now test state.now }
     ensures { IfOk result (λ new. new ≡ rule.clause_met unit.now test kind state.now) }
 {
-    let mut before = state.copy(alloc)?;
+    let before = state.copy(alloc)?;
     let Some(clause) = clause_of_fault(unit, test, kind) else {
         return Ok(before);
     };
-    put_tested(&mut before, unit, test)?;
-    clause_assumed(alloc, unit, test, clause, &before)
+    let put = put_tested(before, unit, test)?;
+    clause_assumed(alloc, unit, test, clause, &put)
 }
 
 /// Returns whether a state entails that an instruction with this operation does not end in the fault.
@@ -149,9 +148,7 @@ fn met_at(
     if is_of_clause(kind) {
         return clause_met(alloc, unit, tested_by(unit, op), kind, state);
     }
-    let mut new = state.copy(alloc)?;
-    avoid(&mut new, unit, op, kind)?;
-    Ok(new)
+    avoid(state.copy(alloc)?, unit, op, kind)
 }
 
 /// Returns whether a state entails an obligation of the unit: that the instruction where it stands does not end in its

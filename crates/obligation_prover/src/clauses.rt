@@ -18,16 +18,16 @@ use domain_api::NoMemory;
 use std::alloc::Global;
 
 /// Puts what a call passes, or what a return gives, into its places.
-pub(crate) fn put_tested(state: &mut AbsState, unit: &Unit, test: Tested) -> Result<(), NoMemory>
+pub(crate) fn put_tested(state: AbsState, unit: &Unit, test: Tested) -> Result<AbsState, NoMemory>
     requires formed { IsWellFormed unit.now }
-    requires ready { CanTest unit.now test state.old }
-    ensures { OnOk result (state.new ≡ rule.put_tested unit.now test state.old) }
+    requires ready { CanTest unit.now test state }
+    ensures { IfOk result (λ new. new ≡ rule.put_tested unit.now test state) }
 {
     match test {
-        Tested::Nothing => Ok(()),
+        Tested::Nothing => Ok(state),
         Tested::Callee(number) => match callee_at(unit, number) {
             Some(callee) => put_args(state, callee.args.as_slice()),
-            None => Ok(()),
+            None => Ok(state),
         },
         Tested::Own => put_result(state, unit.result),
     }
@@ -129,7 +129,7 @@ fn judge_clauses(
     alloc: Global,
     unit: &Unit,
     test: Tested,
-    mut state: AbsState,
+    state: AbsState,
 ) -> Result<Vec<bool>, NoMemory>
     requires formed { IsWellFormed unit.now }
     requires contract { IsContract unit.now test }
@@ -137,8 +137,8 @@ fn judge_clauses(
     ensures { IfOk result (λ shown. shown.items ≡ rule.shown_in_turn unit.now test
         (rule.clauses_tested unit.now test) (rule.put_tested unit.now test state)) }
 {
-    put_tested(&mut state, unit, test)?;
-    judge_each(alloc, unit, test, contract_of(unit, test), state)
+    let put = put_tested(state, unit, test)?;
+    judge_each(alloc, unit, test, contract_of(unit, test), put)
 }
 
 /// Whether each clause is shown that an instruction of the unit with this operation tests, in their order and from the

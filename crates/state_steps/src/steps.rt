@@ -3,6 +3,7 @@
 ghost use Rattle.std.specs.Prelude.{OnOk};
 ghost use Rattle.std.specs.Option.{ForSome};
 ghost use Rattle.state_facts.specs.Forms.{HasReference};
+ghost use Rattle.state_obligations.specs.Conditions.{IsThere};
 
 use abs_state::{AbsState, Var};
 use cil_model::{BinOp, Place};
@@ -16,6 +17,7 @@ use state_text::{
     is_comparison, state, value,
 };
 use std::alloc::Global;
+use std::mem;
 
 /// The operator of a word.
 fn read_operator(word: &str) -> Result<BinOp, Failure> {
@@ -120,16 +122,25 @@ fn address_in(state: &AbsState, i: u32) -> Result<(u32, Expr), Failure> {
     }
 }
 
+/// Assumes that a condition is met.
+fn assume_met(state: &mut AbsState, condition: Condition) -> Result<(), Failure>
+    requires there { ForSome state.old (λ known. IsThere known condition) }
+{
+    let before = mem::replace(state, AbsState::nothing());
+    *state = before.assume_met(condition)?;
+    Ok(())
+}
+
 /// Assumes that an item is there: the reference is not null, and the index is one of its indexes.
 fn assume_item(alloc: Global, state: &mut AbsState, r: u32, at: Expr) -> Result<(), Failure>
     ensures { OnOk result (ForSome state.new (λ known. HasReference known r)) }
 {
     has_reference(alloc, state, r)?;
-    state.assume_met(Condition::NullUse(r))?;
+    assume_met(state, Condition::NullUse(r))?;
     has_number(alloc, state, at)?;
-    state.assume_met(Condition::Lower(at))?;
+    assume_met(state, Condition::Lower(at))?;
     has_value(alloc, state, Var::Address(r, at))?;
-    state.assume_met(Condition::Upper(r, at))?;
+    assume_met(state, Condition::Upper(r, at))?;
     has_reference(alloc, state, r)
 }
 

@@ -1,6 +1,6 @@
 -- The rules of an instruction, one after another.
 use Rattle.std.proofs.Common.{◌≡◌, ℕ, Option, Some, None, refl, sym, subst}
-use Rattle.std.specs.Prelude.{Result, Ok, Err, OnOk}
+use Rattle.std.specs.Prelude.{Result, Ok, Err, IfOk}
 use Rattle.std.specs.Option.{ForSome, option_and_then}
 use Rattle.cil_model.specs.UnitCalls.{unit_call}
 use Rattle.cil_model.specs.declared.instruction.Op.{Op}
@@ -73,19 +73,19 @@ can_along unit op way old between new can first is =
 -- ---- what holds
 
 -- What a rule gives holds where the instruction leads.
-pub holds_behind : {E : Type 0} (result : Result (Unit {0}) E) (unit : MethodUnit) (op : Op) (old new : State)
-    → ForSome old HasForm → CanDo unit op old → OnOk result (new ≡ post unit op old)
-    → OnOk result (HoldsBehind unit op old new)
-holds_behind (Ok u) unit op old new form can is =
+pub holds_behind : {E : Type 0} (result : Result State E) (unit : MethodUnit) (op : Op) (old : State)
+    → ForSome old HasForm → CanDo unit op old → IfOk result (λ new. new ≡ post unit op old)
+    → IfOk result (λ new. HoldsBehind unit op old new)
+holds_behind (Ok new) unit op old form can is =
     subst (HoldsBehind unit op old) (sym is) (post_holds unit op old form can)
-holds_behind (Err e) unit op old new form can is = tt
+holds_behind (Err e) unit op old form can is = tt
 
-pub holds_along : {E : Type 0} (result : Result (Unit {0}) E) (unit : MethodUnit) (op : Op) (way : ℕ)
-    (old new : State) → IsShortSwitch op → ForSome old HasForm → CanDo unit op old
-    → OnOk result (new ≡ along unit op way old) → OnOk result (HoldsAlong unit op way old new)
-holds_along (Ok u) unit op way old new short form can is =
+pub holds_along : {E : Type 0} (result : Result State E) (unit : MethodUnit) (op : Op) (way : ℕ) (old : State)
+    → IsShortSwitch op → ForSome old HasForm → CanDo unit op old
+    → IfOk result (λ new. new ≡ along unit op way old) → IfOk result (λ new. HoldsAlong unit op way old new)
+holds_along (Ok new) unit op way old short form can is =
     subst (HoldsAlong unit op way old) (sym is) (along_holds unit op way old short form can)
-holds_along (Err e) unit op way old new short form can is = tt
+holds_along (Err e) unit op way old short form can is = tt
 
 pub ruleset going_on = (ready_behind, ready_along, can_behind, can_along)
 

@@ -3,6 +3,8 @@
 ghost use Rattle.std.specs.Prelude.{◌≡◌, ◌+◌, ◌≤◌, length, OnOk, Some};
 ghost use Rattle.std.specs.Option.{ForSome, option_and_then};
 ghost use Rattle.cil_model.specs.Limits.{MAX_VARIABLES};
+ghost use Rattle.state_obligations.specs.Assumed.{assume};
+ghost use Rattle.state_obligations.specs.Conditions.{IsThere};
 ghost use Rattle.transfer_rules.specs.Acts as rule;
 ghost use Rattle.transfer_rules.specs.Operands.{on_condition};
 ghost use Rattle.transfer_rules.specs.Owed.{CanCallBy, CanDo, IsReady};
@@ -19,6 +21,7 @@ use domain_api::NoMemory;
 use number_spans::constant;
 use state_obligations::Condition;
 use std::alloc::Global;
+use std::mem;
 
 /// The list index of an argument among the variables.
 fn arg_place(unit: &Unit, n: u16) -> u32
@@ -61,6 +64,16 @@ fn local_type(unit: &Unit, n: u16) -> Place
     type_of(unit.locals.as_slice(), n)
 }
 
+/// Assumes that a condition is met.
+fn assume_met(state: &mut AbsState, condition: Condition) -> Result<(), NoMemory>
+    requires there { ForSome state.old (λ known. IsThere known condition) }
+    ensures { OnOk result (state.new ≡ assume condition state.old) }
+{
+    let before = mem::replace(state, AbsState::nothing());
+    *state = before.assume_met(condition)?;
+    Ok(())
+}
+
 /// Takes the condition of an Assume, which is assumed to be another number than 0.
 #[tactic(auto, using(crate::proofs::Passing::passing))]
 fn pass_assume(state: &mut AbsState, message: bool) -> Result<(), NoMemory>
@@ -70,7 +83,7 @@ fn pass_assume(state: &mut AbsState, message: bool) -> Result<(), NoMemory>
         refuse(state);
         return Ok(());
     };
-    state.assume_met(Condition::Assert(e))
+    assume_met(state, Condition::Assert(e))
 }
 
 /// Takes the condition of an Assert.

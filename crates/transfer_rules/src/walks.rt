@@ -1,6 +1,6 @@
 //! Walks through blocks, and along edges.
 
-ghost use Rattle.std.specs.Prelude.{◌≡◌, ◌+◌, ◌<◌, ◌≤◌, length, IfOk, OnOk};
+ghost use Rattle.std.specs.Prelude.{◌≡◌, ◌+◌, ◌<◌, ◌≤◌, length, IfOk};
 ghost use Rattle.std.specs.List.{AllByRecursion};
 ghost use Rattle.cil_model.specs.Limits.{MAX_VARIABLES};
 ghost use Rattle.transfer_rules.specs.Flow as rule;
@@ -15,24 +15,24 @@ use domain_api::NoMemory;
 use std::alloc::Global;
 use unit_flow::UnitFlow;
 
-/// Takes the state through these instructions of a block, and along the way of this number on from the last.
+/// Takes a state through these instructions of a block, and along the way of this number on from the last.
 fn walk(
     alloc: Global,
-    state: &mut AbsState,
+    mut state: AbsState,
     unit: &Unit,
     instrs: &[Instr],
     number: u32,
-) -> Result<(), NoMemory>
+) -> Result<AbsState, NoMemory>
     requires few { length unit.now.args + length unit.now.locals + unit.now.max_stack ≤ MAX_VARIABLES }
-    requires ready { AreReady unit.now instrs.now state.old }
+    requires ready { AreReady unit.now instrs.now state }
     requires short { AllByRecursion (λ i. IsShortSwitch i.op) instrs.now }
-    ensures { OnOk result (state.new ≡ rule.through unit.now number instrs.now state.old) }
+    ensures { IfOk result (λ behind. behind ≡ rule.through unit.now number instrs.now state) }
 {
     let [others @ .., last] = instrs else {
-        return Ok(());
+        return Ok(state);
     };
     for instr in others {
-        post(alloc, state, unit, &instr.op)?;
+        state = post(alloc, state, unit, &instr.op)?;
     }
     along(alloc, state, unit, &last.op, number)
 }
@@ -52,13 +52,7 @@ pub(crate) fn along_edge(
     ensures { IfOk result (λ behind. behind ≡ rule.along_edge state.now code.now edge) }
 {
     let edge = code.graph.edges.as_slice()[edge];
-    let mut behind = state.copy(alloc)?;
-    walk(
-        alloc,
-        &mut behind,
-        &code.unit,
-        code.block(edge.from),
-        edge.number,
-    )?;
+    let begun = state.copy(alloc)?;
+    let behind = walk(alloc, begun, &code.unit, code.block(edge.from), edge.number)?;
     behind.norm(alloc)
 }

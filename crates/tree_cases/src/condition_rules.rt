@@ -10,6 +10,7 @@ use rule_text::{Failure, asked, check, check_yes, expr, fault, operator, referen
 use state_obligations::{Condition, Operation};
 use state_text::{has_number, has_reference};
 use std::alloc::Global;
+use std::mem;
 
 /// The operation of a text: `length r1`, `element r1 s1`, `newarr s1`, `assert s1`, or an operator and two numbers.
 fn named(text: &str) -> Result<Operation, Failure> {
@@ -120,7 +121,8 @@ pub fn assume_no(alloc: Global, state: &mut AbsState, argument: &str) -> Result<
     let Some(condition) = condition_of(alloc, state, operation, kind)? else {
         return Err(Failure::Unread("a fault of the operation"));
     };
-    state.assume_met(condition)?;
+    let before = mem::replace(state, AbsState::nothing());
+    *state = before.assume_met(condition)?;
     Ok(())
 }
 
@@ -129,5 +131,8 @@ pub fn assume_no(alloc: Global, state: &mut AbsState, argument: &str) -> Result<
 pub fn judged(alloc: Global, state: &mut AbsState, argument: &str) -> Result<(), Failure> {
     let (text, told) = asked(argument)?;
     let operation = operation(alloc, state, text)?;
-    check_yes(alloc, state.judge(operation)?, told)
+    let before = mem::replace(state, AbsState::nothing());
+    let judged = before.judge(operation)?;
+    *state = judged.state;
+    check_yes(alloc, judged.entailed, told)
 }

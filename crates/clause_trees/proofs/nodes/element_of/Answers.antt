@@ -5,7 +5,7 @@ use Rattle.clause_trees.proofs.nodes.element_of.Goals as goal
 
 pub push_item-requires : goal.push_item-requires
 push_item-requires c = record {
-  there = judged_reference (conditions_of (operations.Element c.args.r c.args.i)) c.args.state.now c.judge.new.self
+  there = judged_reference (conditions_of (operations.Element c.args.r c.args.i)) c.args.state.now c.judge.new.state
       c.args.r c.reached.ensures.form
       (element_there c.args.state.now c.args.r c.args.i c.requires.reference c.requires.index)
       c.requires.reference c.in_ok-entailed.ensures.state;

@@ -1,10 +1,9 @@
-use Rattle.std.proofs.Common.{rules, ◌≡◌, subst, sym}
-use Rattle.contract_calls.specs.Arguments.{put_args}
+use Rattle.std.proofs.Common.{subst, sym}
 use Rattle.contract_calls.specs.CallForms.{CanCall}
 use Rattle.contract_calls.proofs.AtCalls.{put_ready}
 use Rattle.contract_calls.proofs.calls.whole.Goals as goal
 
 pub assume_all_requires-requires-clause-ready : goal.assume_all_requires-requires-clause-ready
 assume_all_requires-requires-clause-ready c =
-    let put : c.put_args.new.state ≡ put_args c.args.callee.now.args c.args.state = search rules in
-    subst (CanCall c.args.callee.now) (sym put) (put_ready c.args.callee.now c.args.state c.requires.ready)
+    subst (CanCall c.args.callee.now) (sym c.in_ok-put.ensures.value)
+    (put_ready c.args.callee.now c.args.state c.requires.ready)

@@ -15,7 +15,7 @@ pub go_behind-requires-clause-ready : goal.go_behind-requires-clause-ready
 go_behind-requires-clause-ready c =
     let below : c.in-Some.block < length c.args.states.now = search rules in
     let there : c.in-Some.block < length c.args.code.now.graph.blocks = search rules in
-    let is = c.in_ok-behind.ensures ∙ item_is c.args.states.now c.in-Some.block c.index-states-block.result below c.index-states-block.is in
+    let is = c.in_ok-begun.ensures ∙ item_is c.args.states.now c.in-Some.block c.index-states-block.result below c.index-states-block.is in
     rw c.block.ensures
-    (block_judged c.args.code.now c.requires.lawful c.in-Some.block c.in_ok-behind.behind there
+    (block_judged c.args.code.now c.requires.lawful c.in-Some.block c.in_ok-begun.begun there
     (subst (Fits c.args.code.now c.in-Some.block) (sym is) (c.in_ok-fit_all.ensures.fit c.in-Some.block below)))

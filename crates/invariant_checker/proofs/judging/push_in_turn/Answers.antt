@@ -12,7 +12,7 @@ loop-kind-preserved c =
     let kinds = faults_of unit i.op in
     let kind = get_or kinds c.loop-kind.kind-index (Requires 0) in
     let here = c.faults_of-kind-items.ensures.value in
-    let step : c.avoid.new.state ≡ avoid unit i.op kind c.loop-kind.state = rw here at c.in_ok-avoid.ensures.value in
+    let step : c.in_ok-state.state ≡ avoid unit i.op kind c.loop-kind.state = rw here at c.in_ok-state.ensures.value in
     let within : c.loop-kind.kind-index < length kinds = rw here at c.loop-kind-test.true in
     let pushed : c.push.new.self.items ≡ c.loop-kind.found.items ++ verdict_at unit i kind c.loop-kind.state ∷ [] =
     rw (c.rules_out.ensures.value, here) at c.in_ok-push.ensures.items in

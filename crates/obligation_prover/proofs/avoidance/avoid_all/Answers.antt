@@ -6,5 +6,5 @@ pub returns-clause-sound : goal.returns-clause-sound
 returns-clause-sound c =
     let unit = c.args.unit.now in
     let op = c.args.op.now in
-    avoided_where_ok c.assume_all_met.result unit op c.args.state.now _ c.assume_all_met.new.state c.assume_all_met.ensures.value
-    (all_avoided unit op c.args.state.now c.assume_all_met.ensures.form)
+    avoided_where_ok c.assume_all_met.result unit op c.args.state _ c.assume_all_met.ensures.value
+    (all_avoided unit op c.args.state c.assume_all_met.ensures.form)

@@ -20,12 +20,12 @@ walk-requires-clause-short c = rw c.block.ensures (block_short c.args.code.now c
 
 pub walk-requires-clause-ready : goal.walk-requires-clause-ready
 walk-requires-clause-ready c =
-    rw (c.block.ensures, c.in_ok-behind.ensures, c.as_slice.ensures)
+    rw (c.block.ensures, c.in_ok-begun.ensures, c.as_slice.ensures)
     (block_ready c.args.code.now c.args.edge c.args.state.now c.requires.lawful c.requires.there c.requires.fits)
 
 pub returns : goal.returns
 unfolding along_edge
 returns c =
-    let same : normal c.walk.new.state ≡ along_edge c.args.state.now c.args.code.now c.args.edge =
-    rw (c.in_ok-walk.ensures, c.block.ensures, c.in_ok-behind.ensures, c.as_slice.ensures) refl in
+    let same : normal c.in_ok-behind.behind ≡ along_edge c.args.state.now c.args.code.now c.args.edge =
+    rw (c.in_ok-behind.ensures, c.block.ensures, c.in_ok-begun.ensures, c.as_slice.ensures) refl in
     subst (λ (s : State). IfOk c.norm.result (λ behind. behind ≡ s)) same c.norm.ensures.value

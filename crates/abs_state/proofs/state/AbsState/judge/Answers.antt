@@ -1,17 +1,21 @@
-use Rattle.state_facts.specs.StateFacts.{State}
-use Rattle.state_obligations.proofs.StateLaws.{assumes_them, sound_where_ok}
+use Rattle.state_obligations.proofs.StateLaws.{assumes_them, entails_them}
 use Rattle.state_obligations.specs.Conditions.{conditions_of}
 use Rattle.state_obligations.specs.Judged.{judged}
-use Rattle.state_obligations.specs.Meaning.{AssumesThem}
-use Rattle.abs_state.proofs.KeptWhereOk.{kept_where_ok}
+use Rattle.state_obligations.specs.Meaning.{AssumesThem, EntailsThem}
+use Rattle.abs_state.specs.declared.obligations.Judged.{Judged}
+use Rattle.abs_state.proofs.KeptWhereOk.{kept_in_answer, sound_in_answer}
 use Rattle.abs_state.proofs.state.AbsState.judge.Goals as goal
 
 pub returns-clause-sound : goal.returns-clause-sound
 returns-clause-sound c =
-    sound_where_ok c.judge_operation.result (conditions_of c.args.operation) c.args.self.now c.reached.ensures.form c.requires.there c.judge_operation.ensures.value
+    let cs = conditions_of c.args.operation in
+    sound_in_answer c.judged_by_rule.result (λ (found : Judged). found.entailed) (EntailsThem cs c.args.self)
+    (judged cs c.args.self).entailed (entails_them cs c.args.self c.judged_by_rule.ensures.form c.requires.there)
+    c.judged_by_rule.ensures.entailed
 
 pub returns-clause-keeps : goal.returns-clause-keeps
 returns-clause-keeps c =
     let cs = conditions_of c.args.operation in
-    kept_where_ok c.judge_operation.result (λ (s : State). AssumesThem cs c.args.self.now s) (judged cs c.args.self.now).state c.judge_operation.new.self
-    (assumes_them cs c.args.self.now c.reached.ensures.form c.requires.there) c.judge_operation.ensures.state
+    kept_in_answer c.judged_by_rule.result (λ (found : Judged). found.state) (AssumesThem cs c.args.self)
+    (judged cs c.args.self).state (assumes_them cs c.args.self c.judged_by_rule.ensures.form c.requires.there)
+    c.judged_by_rule.ensures.state
