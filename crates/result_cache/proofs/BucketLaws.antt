@@ -10,7 +10,7 @@ use Rattle.std.proofs.lemmas.List.{length-set, get_or-set_same, get_or-set_other
 use Rattle.std.proofs.lemmas.Slice.Eq.{bytes_eq-Decides}
 use Rattle.result_cache.specs.declared.link.Link.{Link}
 use Rattle.result_cache.specs.declared.row.Row.{Row}
-use Rattle.result_cache.specs.Buckets.{AreChained, AreRows, IsLast, bucket_at, bucket_of, hash_at, hash_of, next_at, no_row}
+use Rattle.result_cache.specs.Buckets.{AreChained, AreRows, IsLast, bucket_at, bucket_of, hash_at, hash_of, head_of, next_at, no_row, with_head}
 use Rattle.result_cache.specs.Entries.{IsKeyAt, is_among, keys_of}
 use Rattle.result_cache.specs.Links.{is_first_in, link_to, mark_in, mark_of, no_link, number_in}
 use Rattle.result_cache.specs.Rows.{AreWithin, entries_in, entry_in, key_in, keys_in}
@@ -123,8 +123,7 @@ none_under_way bytes rows heads within empty = record {
 pub chains_next : (bytes : List ℕ) (first rows : List Row) (heads others : List Link) (i hash : ℕ) (before : Link) (key : List ℕ)
     → AreUnderWay bytes first rows heads i → i < length rows → length rows < 2 ^ 23 → 0 < length heads
     → key ≡ key_in bytes (get_or rows i no_row) → hash ≡ hash_of key
-    → before ≡ get_or heads (bucket_of (length heads) hash) no_link
-    → others ≡ set heads (bucket_of (length heads) hash) (link_to (i + 1) (get_or heads (bucket_of (length heads) hash) no_link) hash)
+    → before ≡ head_of heads hash → others ≡ with_head heads hash (i + 1)
     → AreUnderWay bytes first (set rows i (record (get_or rows i no_row) { next = before })) others (i + 1)
 chains_next bytes first rows heads others i hash before key is below few room key_is hash_is before_is heads_are =
     let row : Row = record (get_or rows i no_row) { next = before } in
@@ -139,7 +138,7 @@ chains_next bytes first rows heads others i hash before key is below few room ke
           (chained_more (length heads) (keys_in bytes rows) heads rows (set rows i row) i key refl room (omega (arith, below, few)) at is.chained
           (λ j early. ap (λ (r : Row). r.next) (get_or-set_other rows i j row no_row (λ same. absurd (omega (arith, early, same)))))
           (ap (λ (r : Row). r.next) (get_or-set_same rows i row no_row below) ∙ before_is
-          ∙ ap (λ (h : ℕ). get_or heads (bucket_of (length heads) h) no_link) hash_is));
+          ∙ ap (head_of heads) hash_is));
     }
 
 -- ---- the search
@@ -155,12 +154,12 @@ pub record IsSought (bytes : List ℕ) (rows : List Row) (count : ℕ) (key : Li
   pub all : (i : ℕ) → i < length rows → get_or (keys_in bytes rows) i [] ≡ key → i < number_in link
 
 pub sought_first : (bytes : List ℕ) (rows : List Row) (heads : List Link) (key : List ℕ) (hash : ℕ) (link : Link)
-    → AreRows bytes rows heads → hash ≡ hash_of key → link ≡ get_or heads (bucket_of (length heads) hash) no_link
+    → AreRows bytes rows heads → hash ≡ hash_of key → link ≡ head_of heads hash
     → IsSought bytes rows (length heads) key link
 sought_first bytes rows heads key hash link are hash_is is = by (length heads) refl
   where
-    link_is : link ≡ get_or heads (bucket_of (length heads) (hash_of key)) no_link
-    link_is = is ∙ ap (λ (h : ℕ). get_or heads (bucket_of (length heads) h) no_link) hash_is
+    link_is : link ≡ head_of heads (hash_of key)
+    link_is = is ∙ ap (head_of heads) hash_is
 
     by : (count : ℕ) → count ≡ length heads → IsSought bytes rows count key link
     by zero none =

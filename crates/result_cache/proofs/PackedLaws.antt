@@ -10,7 +10,7 @@ use Rattle.std.proofs.lemmas.Slice.Eq.{bytes_eq-Decides}
 use Rattle.cc_base.specs.Sink.{IsPrefix}
 use Rattle.result_cache.specs.declared.link.Link.{Link}
 use Rattle.result_cache.specs.declared.row.Row.{Row}
-use Rattle.result_cache.specs.Buckets.{AreChained, AreRows, IsLast, bucket_at, bucket_of, hash_of, next_at, no_row}
+use Rattle.result_cache.specs.Buckets.{AreChained, AreRows, IsLast, bucket_at, bucket_of, hash_of, head_of, next_at, no_row, with_head}
 use Rattle.result_cache.specs.Entries.{AreDistinct, Entry, IsKeyAt, invariant_of, is_among, keys_of, with_entry}
 use Rattle.result_cache.specs.Links.{link_to, mark_of, no_link}
 use Rattle.result_cache.specs.Rows.{AreWithin, IsWithin, entries_in, entry_in, key_in, keys_in, row_after, value_in, with_next}
@@ -180,13 +180,12 @@ last_row (first ∷ rows) row = last_row rows row
 
 pub pushed_rows : (bytes : List ℕ) (rows : List Row) (heads : List Link) (key value : List ℕ) → AreRows bytes rows heads
     → length rows < length heads → length rows + 1 < 2 ^ 23 → is_among (keys_in bytes rows) key ≡ false
-    → AreRows (bytes ++ (key ++ value)) (rows ++ row_after bytes key value (get_or heads (bucket_of (length heads) (hash_of key)) no_link) ∷ [])
-    (set heads (bucket_of (length heads) (hash_of key))
-    (link_to (length rows + 1) (get_or heads (bucket_of (length heads) (hash_of key)) no_link) (hash_of key)))
+    → AreRows (bytes ++ (key ++ value)) (rows ++ row_after bytes key value (head_of heads (hash_of key)) ∷ [])
+    (with_head heads (hash_of key) (length rows + 1))
 pushed_rows bytes rows heads key value are room few none =
     let count = length heads in
     let bucket = bucket_of count (hash_of key) in
-    let next = get_or heads bucket no_link in
+    let next = head_of heads (hash_of key) in
     let row = row_after bytes key value next in
     let keys : keys_in (bytes ++ (key ++ value)) (rows ++ row ∷ []) ≡ keys_in bytes rows ++ key ∷ [] = keys_new bytes rows key value next are.within in
     let long : length (rows ++ row ∷ []) ≡ length rows + 1 = omega (arith, length-append rows (row ∷ [])) in
@@ -313,9 +312,8 @@ pub record IsPushed (bytes after : List ℕ) (rows all : List Row) (heads others
   pub after_is : after ≡ bytes ++ (key ++ value)
   pub hash_is : hash ≡ hash_of key
   pub row_is : row ≡ row_after bytes key value no_link
-  pub others_is : others ≡ set heads (bucket_of (length heads) hash)
-      (link_to (length rows + 1) (get_or heads (bucket_of (length heads) hash) no_link) hash)
-  pub all_is : all ≡ rows ++ with_next row (get_or heads (bucket_of (length heads) hash) no_link) ∷ []
+  pub others_is : others ≡ with_head heads hash (length rows + 1)
+  pub all_is : all ≡ rows ++ with_next row (head_of heads hash) ∷ []
 
 pub pushed : (bytes after : List ℕ) (rows all : List Row) (heads others : List Link) (key value : List ℕ) (hash : ℕ) (row : Row)
     → IsPushed bytes after rows all heads others key value hash row → AreRows bytes rows heads
@@ -328,7 +326,7 @@ pub pushed_entries : (bytes after : List ℕ) (rows all : List Row) (heads other
     → entries_in after all ≡ entries_in bytes rows ++ (key, value) ∷ []
 pushed_entries bytes after rows all heads others key value hash row is are =
     rw (is.after_is, is.all_is, is.row_is)
-    (entries_new bytes rows key value (get_or heads (bucket_of (length heads) hash) no_link) are.within)
+    (entries_new bytes rows key value (head_of heads hash) are.within)
 
 -- The fields once an entry has another value.
 pub record IsReplaced (bytes after : List ℕ) (rows : List Row) (i : ℕ) (key value : List ℕ) (row last : Row) : Type 0 where

@@ -1,11 +1,11 @@
 -- Buckets of keys, in which the entries of one hash stand, the last one first.
-use Rattle.std.specs.Prelude.{◌≡◌, ◌≢◌, ℕ, suc, true, ◌/◌, ◌%◌, ◌^◌, ◌<◌, ◌≤◌, List, [], length, get_or}
+use Rattle.std.specs.Prelude.{◌≡◌, ◌≢◌, ℕ, suc, true, ◌/◌, ◌%◌, ◌^◌, ◌<◌, ◌≤◌, List, [], length, get_or, set}
 use Rattle.std.specs.Hash.DefaultHasher as sip
 use Rattle.result_cache.specs.declared.link.Link.{Link}
 use Rattle.result_cache.specs.declared.row.Row.{Row}
 use Rattle.result_cache.specs.Rows.{AreWithin, keys_in}
 use Rattle.result_cache.specs.Entries.{AreDistinct}
-use Rattle.result_cache.specs.Links.{is_first_in, mark_in, mark_of, no_link, number_in}
+use Rattle.result_cache.specs.Links.{is_first_in, link_to, mark_in, mark_of, no_link, number_in}
 
 -- A hash of a key.
 unfoldable pub hash_of : List ℕ → ℕ
@@ -35,6 +35,14 @@ no_row = record { start = 0; middle = 0; end = 0; next = no_link }
 
 abbrev pub next_at : List Row → ℕ → Link
 next_at rows i = (get_or rows i no_row).next
+
+-- The last entry of the bucket of a hash.
+abbrev pub head_of : List Link → ℕ → Link
+head_of heads hash = get_or heads (bucket_of (length heads) hash) no_link
+
+-- The buckets once the entry of this number, whose key has this hash, is the last of its own.
+abbrev pub with_head : List Link → ℕ → ℕ → List Link
+with_head heads hash number = set heads (bucket_of (length heads) hash) (link_to number (head_of heads hash) hash)
 
 -- Of the first n entries each of so many buckets has its last one, and each entry the one before it in its bucket.
 pub record AreChained (count : ℕ) (keys : List (List ℕ)) (heads : List Link) (rows : List Row) (n : ℕ) : Type 0 where

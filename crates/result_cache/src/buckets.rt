@@ -3,11 +3,11 @@
 //! The hash is SipHash-1-3 with fixed keys: whoever makes a file can find keys of one bucket by trying, and each of
 //! them costs as many tries as there are buckets.
 
-ghost use Rattle.std.specs.Prelude.{◌≡◌, ℕ, ◌+◌, ◌<◌, ◌≤◌, ◌^◌, List, [], length, get_or, set, false, if◌then◌else◌, IfOk, IfSome, IfNone, OnErr};
+ghost use Rattle.std.specs.Prelude.{◌≡◌, ℕ, ◌+◌, ◌<◌, ◌≤◌, ◌^◌, List, [], length, get_or, false, if◌then◌else◌, IfOk, IfSome, IfNone, OnErr};
 ghost use Rattle.std.specs.Str.{bytes_eq};
-ghost use Rattle.result_cache.specs.Buckets.{AreChained, AreRows, bucket_of, hash_of};
+ghost use Rattle.result_cache.specs.Buckets.{AreChained, AreRows, bucket_of, hash_of, head_of, with_head};
 ghost use Rattle.result_cache.specs.Entries.{IsKeyAt, is_among};
-ghost use Rattle.result_cache.specs.Links.{is_first_in, link_to, mark_in, mark_of, no_link};
+ghost use Rattle.result_cache.specs.Links.{is_first_in, mark_in, mark_of, no_link};
 ghost use Rattle.result_cache.specs.Rows.{AreWithin, IsWithin, entries_in, key_in, keys_in};
 
 use crate::link::Link;
@@ -40,9 +40,8 @@ fn bucket_of(hash: u64, count: usize) -> usize
 pub(crate) fn chain(heads: &mut [Link], hash: u64, number: u32) -> Link
     requires room { 0 < length heads.old }
     requires few { number < 2 ^ 23 }
-    ensures value { result ≡ get_or heads.old (bucket_of (length heads.old) hash) no_link }
-    ensures heads { heads.new ≡ set heads.old (bucket_of (length heads.old) hash)
-        (link_to number (get_or heads.old (bucket_of (length heads.old) hash) no_link) hash) }
+    ensures value { result ≡ head_of heads.old hash }
+    ensures heads { heads.new ≡ with_head heads.old hash number }
 {
     let bucket = bucket_of(hash, heads.len());
     let before = heads[bucket];
@@ -100,7 +99,7 @@ pub(crate) fn buckets(
 
 /// The last entry of the bucket of a hash; none where no bucket is there.
 fn head(heads: &[Link], hash: u64) -> Link
-    ensures { result ≡ get_or heads.now (bucket_of (length heads.now) hash) no_link }
+    ensures { result ≡ head_of heads.now hash }
 {
     if heads.is_empty() {
         return Link::NONE;

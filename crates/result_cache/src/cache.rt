@@ -74,8 +74,8 @@ impl Cache {
     ///
     /// # Errors
     ///
-    /// Want of memory, also where all bytes together, with those that were replaced, are 2^32 or more, and for more than
-    /// 8,388,607 entries. Then nothing has changed.
+    /// Want of memory, also where all bytes together, with those that were replaced, are 2^32 or more, and where the
+    /// entries would be more than 8,388,607. Then nothing has changed.
     pub fn put(&mut self, key: &[u8], invariant: &[u8]) -> Result<(), NoMemory>
         requires { IsInvariant invariant.now }
         ensures ok { OnOk result (self.new ≡ with_entry self.old key.now invariant.now) }

@@ -81,8 +81,9 @@ impl Cache {
     ///
     /// Cost: linear in the number of bytes, but for what it costs to read a unit of the first form, and for keys that
     /// were made to stand in one bucket (buckets.rt). Room is taken for as many bytes as the file has, and 20 for each
-    /// entry that is counted, but for one in ten bytes at most. A file of the first form is read so too, and what was
-    /// kept of it is let go; then it is walked once more, and as much room is taken for what its entries stand for.
+    /// entry that is counted, as far as so many bytes can be entries of distinct keys. A file of the first form is read
+    /// so too, and what was kept of it is let go; then it is walked once more, and as much room is taken for what its
+    /// entries stand for.
     pub fn read(alloc: Global, bytes: &[u8]) -> Result<Cache, CacheRefusal>
         // It is read where no test of the list fails; a fault is that of the first test that does.
         ensures judged { JudgesOrNoMemory result (first_cache_fault bytes.now) (λ cache. cache ≡ entries_of bytes.now) }

@@ -50,7 +50,8 @@ pub fn read_sized(bytes: &[u8], at: u32) -> Result<(&[u8], u32), CacheFault>
 #[tactic(auto, using(cc_base::proofs::TestLemmas::appended))]
 pub fn read_pair(bytes: &[u8], at: u32) -> Result<(&[u8], &[u8], u32), CacheFault>
     requires short { length bytes.now ≤ 2147483647 }
-    ensures { Judges result (first_of ((sized_field bytes.now at).tests ++ (sized_field bytes.now (sized_field bytes.now at).next).tests))
+    ensures { Judges result
+        (first_of ((sized_field bytes.now at).tests ++ (sized_field bytes.now (sized_field bytes.now at).next).tests))
         (λ read. (read.0.now ≡ (sized_field bytes.now at).value)
         × IsRead bytes.now (sized_field bytes.now (sized_field bytes.now at).next) read.1.now read.2
         × (length read.0.now ≤ length bytes.now)) }

@@ -6,11 +6,11 @@ ghost use Rattle.result_cache.specs.Links.{is_first_in, link_to, mark_of, mark_i
 /// The numbers of entries, and 0.
 const NUMBERS: u32 = 1 << 23;
 
-/// The number of an entry, counted from 1; whether it is the first of its bucket; and the last 8 bits of the hash of its
-/// key, in this order from the lowest bit on. The number is 0 where there is no entry.
+/// The number of an entry, counted from 1, in 23 bits; whether it is the first of its bucket; and the last 8 bits of
+/// the hash of its key. The number is 0 where there is no entry.
 ///
 /// A look at an entry costs a cache miss for its row and one for its key. Of an entry with other bits than those of the
-/// key that is looked for, the key need not be read; and of one that is the first of its bucket, neither need the row.
+/// key that is looked for the key need not be read; and where it is the first of its bucket, its row neither.
 #[derive(Clone, Copy)]
 pub(crate) struct Link {
     packed: u32,

@@ -4,11 +4,11 @@
 //! cache file of the shortest entries. Here an entry takes 20 bytes, 16 for its row and 4 for a bucket, while entries
 //! are no more than was asked for; where they are added one by one, the vectors have up to twice the room.
 
-ghost use Rattle.std.specs.Prelude.{◌≡◌, ◌+◌, ◌<◌, ◌^◌, ◌++◌, [], ◌∷◌, false, length, get_or, set, option_map, slice_get, IfOk, IfSome, IfNone, OnErr, OnOk, vec_len, vec_capacity};
+ghost use Rattle.std.specs.Prelude.{◌≡◌, ◌+◌, ◌<◌, ◌^◌, ◌++◌, [], ◌∷◌, false, length, option_map, slice_get, IfOk, IfSome, IfNone, OnErr, OnOk, vec_len, vec_capacity};
 ghost use Rattle.cc_base.specs.Sink.{IsPrefix};
-ghost use Rattle.result_cache.specs.Buckets.{AreRows, bucket_of, hash_of};
+ghost use Rattle.result_cache.specs.Buckets.{AreRows, hash_of, head_of, with_head};
 ghost use Rattle.result_cache.specs.Entries.{invariant_of, is_among, keys_of, with_entry, IsKeyAt};
-ghost use Rattle.result_cache.specs.Links.{link_to, no_link};
+ghost use Rattle.result_cache.specs.Links.{no_link};
 ghost use Rattle.result_cache.specs.Rows.{entries_in, row_after, with_next};
 
 use crate::buckets::{buckets, chain, empty_buckets, find, hash_of};
@@ -94,10 +94,8 @@ fn add_row(rows: &mut Vec<Row>, heads: &mut Vec<Link>, hash: u64, row: Row)
     requires room { vec_len rows.old < vec_capacity rows.old }
     requires number { length rows.old.items + 1 < 2 ^ 23 }
     requires some { 0 < length heads.old.items }
-    ensures rows { rows.new.items ≡
-        rows.old.items ++ with_next row (get_or heads.old.items (bucket_of (length heads.old.items) hash) no_link) ∷ [] }
-    ensures heads { heads.new.items ≡ set heads.old.items (bucket_of (length heads.old.items) hash)
-        (link_to (length rows.old.items + 1) (get_or heads.old.items (bucket_of (length heads.old.items) hash) no_link) hash) }
+    ensures rows { rows.new.items ≡ rows.old.items ++ with_next row (head_of heads.old.items hash) ∷ [] }
+    ensures heads { heads.new.items ≡ with_head heads.old.items hash (length rows.old.items + 1) }
 {
     let next = chain(heads, hash, rows.len() as u32 + 1);
     rows.push_reserved(Row { next, ..row });
@@ -192,8 +190,8 @@ impl Packed {
 
     /// Gives a key a value: in its place where it has one, else after all others. After an error nothing has changed.
     ///
-    /// Cost: linear in the bytes of the entry, with one hash of the key. When the entries come to be as many as the buckets, these are doubled,
-    /// and all keys are hashed again.
+    /// Cost: linear in the bytes of the entry, with one hash of the key. When the entries come to be as many as the
+    /// buckets, these are doubled, and all keys are hashed again.
     pub fn insert(&mut self, key: &[u8], value: &[u8]) -> Result<(), NoMemory>
         ensures ok { OnOk result (self.new ≡ with_entry self.old key.now value.now) }
         ensures err { OnErr result (self.new ≡ self.old) }

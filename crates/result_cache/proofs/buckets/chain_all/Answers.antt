@@ -1,7 +1,7 @@
-use Rattle.std.proofs.Common.{arith, get_or, length, ◌+◌, ap}
+use Rattle.std.proofs.Common.{arith, length, ◌+◌, ap}
 use Rattle.std.proofs.lemmas.List.{length-set}
-use Rattle.result_cache.specs.Buckets.{bucket_of}
-use Rattle.result_cache.specs.Links.{link_to, no_link}
+use Rattle.result_cache.specs.Buckets.{bucket_of, head_of}
+use Rattle.result_cache.specs.Links.{link_to}
 use Rattle.result_cache.proofs.BucketLaws.{chains_next, none_under_way}
 use Rattle.result_cache.proofs.RowLaws.{within_at}
 use Rattle.result_cache.proofs.buckets.chain_all.Goals as goal
@@ -20,5 +20,5 @@ loop-index-preserved c = (
       c.hash_of-hash.result c.chain.result c.key.result.now c.loop-index.invariant.0
       (omega (arith, c.loop-index-test.true, c.loop-index.auto.rows)) (omega (arith, c.requires.few, c.loop-index.auto.rows))
       c.loop-index.invariant.1 c.key.ensures c.hash_of-hash.ensures c.chain.ensures.value c.chain.ensures.heads,
-  omega (arith, c.loop-index.invariant.1, ap length c.chain.ensures.heads, length-set c.loop-index.heads (bucket_of (length c.loop-index.heads) c.hash_of-hash.result) (link_to (c.loop-index.index + 1) (get_or c.loop-index.heads (bucket_of (length c.loop-index.heads) c.hash_of-hash.result) no_link) c.hash_of-hash.result)),
+  omega (arith, c.loop-index.invariant.1, ap length c.chain.ensures.heads, length-set c.loop-index.heads (bucket_of (length c.loop-index.heads) c.hash_of-hash.result) (link_to (c.loop-index.index + 1) (head_of c.loop-index.heads c.hash_of-hash.result) c.hash_of-hash.result)),
 )
