@@ -1,9 +1,7 @@
 -- Keys of the first form, and what stands for them.
-use Rattle.std.proofs.Common.{◌≡◌, ℕ, zero, suc, ◌+◌, Bool, true, false, ◌||◌, List, [], ◌∷◌, ◌++◌, take, filter_map, cond, slice_get, Option, Some, None, Err, refl, sym, subst, ap, ◌∙◌, arith, append_assoc, append-nil}
+use Rattle.std.proofs.Common.{◌≡◌, ℕ, Bool, true, false, ◌||◌, List, [], ◌∷◌, ◌++◌, filter_map, cond, Option, Some, None, Err, refl, sym, subst, ap, ◌∙◌}
 use Rattle.std.specs.Prelude.{◌&&◌}
-use Rattle.std.specs.Option.{option_map_or}
 use Rattle.std.specs.Str.{bytes_eq}
-use Rattle.std.proofs.lemmas.List.Elements.{filter_map-append}
 use Rattle.std.proofs.lemmas.Option.{none-some}
 use Rattle.std.proofs.lemmas.Slice.Eq.{bytes_eq-Decides}
 use Rattle.cc_base.specs.Tests.{JudgesOrNoMemory}
@@ -17,9 +15,8 @@ use Rattle.method_unit.proofs.UnitAgain.{one_unit, spelled_again}
 use Rattle.unit_form.specs.Spelling.{HasCounts, IsSpelledBy, unit_bytes, unit_spelling}
 use Rattle.unit_form.specs.declared.form.UnitForm.{UnitForm}
 use Rattle.unit_form.specs.declared.form.UnitForm.TheVariants.{First, Second, Third}
-use Rattle.result_cache.specs.Entries.{AreEntries, AreEntriesBehind, Entry, is_among, keys_of, with_entry}
+use Rattle.result_cache.specs.Entries.{Entry, is_among, keys_of}
 use Rattle.result_cache.specs.FirstForm.{AreFirst, has_first_number, IsFirstOf, second_entry, second_key}
-use Rattle.result_cache.proofs.EntryLemmas.{put_last, take_next}
 
 -- ---- one key
 
@@ -105,7 +102,8 @@ neither : (a b : Bool) → (a || b) ≡ false → (a ≡ false) × (b ≡ false)
 neither true b e = absurd cc
 neither false b e = (refl, e)
 
-other_keys : (before : List Entry) (key second : List ℕ) → IsFirstOf key second → AreFirst before
+-- A key that is none of those before it stands for a key that is none of those for which they stand.
+pub other_keys : (before : List Entry) (key second : List ℕ) → IsFirstOf key second → AreFirst before
     → is_among (keys_of before) key ≡ false → is_among (keys_of (filter_map second_entry before)) second ≡ false
 other_keys [] key second is firsts new = refl
 other_keys (e ∷ es) key second is firsts new =
@@ -125,46 +123,7 @@ other_keys (e ∷ es) key second is firsts new =
     by None none apart later = rw none later
     by (Some k) some apart later = rw some (rw (differs k _ some refl apart, later) refl)
 
--- The key at a place is none of those before it.
-new_behind : (keys : List (List ℕ)) (entries : List Entry) (place : ℕ) (e : Entry) → AreEntriesBehind keys entries
-    → slice_get entries place ≡ Some e → is_among (keys ++ keys_of (take place entries)) e.0 ≡ false
-new_behind keys [] place e are is = absurd cc
-new_behind keys (first ∷ es) zero e are is =
-    let its : first ≡ e = cc in
-    subst (λ (it : Entry). is_among (keys ++ []) it.0 ≡ false) its (ap (λ (ks : List (List ℕ)). is_among ks first.0) (append-nil keys) ∙ are.0)
-new_behind keys (first ∷ es) (suc place) e are is =
-    ap (λ (ks : List (List ℕ)). is_among ks e.0) (sym (append_assoc keys (first.0 ∷ []) (keys_of (take place es))))
-    ∙ new_behind (keys ++ first.0 ∷ []) es place e are.2 is
-
-firsts_push : (before : List Entry) (e : Entry) → AreFirst before
+pub firsts_push : (before : List Entry) (e : Entry) → AreFirst before
     → ((key : List ℕ) → second_key e.0 ≡ Some key → IsFirstOf e.0 key) → AreFirst (before ++ e ∷ [])
 firsts_push [] e firsts is = (is, tt)
 firsts_push (first ∷ es) e firsts is = (firsts.0, firsts_push es e firsts.1 is)
-
--- The entries up to a place stand for these.
-pub record AreTold (entries : List Entry) (place : ℕ) (seconds : List Entry) : Type 0 where
-  pub same : seconds ≡ filter_map second_entry (take place entries)
-  pub firsts : AreFirst (take place entries)
-
-pub told_next : (entries : List Entry) (place : ℕ) (key invariant : List ℕ) (old new : List Entry) → AreEntries entries
-    → slice_get entries place ≡ Some (key, invariant) → AreTold entries place old
-    → new ≡ option_map_or (λ k. with_entry old k invariant) (second_key key) old
-    → ((second : List ℕ) → second_key key ≡ Some second → IsFirstOf key second) → AreTold entries (place + 1) new
-told_next entries place key invariant old new are is told put first =
-    let before = take place entries in
-    let one : place + 1 ≡ suc place = omega arith in
-    let more : take (place + 1) entries ≡ before ++ (key, invariant) ∷ [] =
-    ap (λ (n : ℕ). take n entries) one ∙ take_next entries place (key, invariant) is in
-    record {
-      same = put ∙ by (second_key key) refl ∙ sym (ap (filter_map second_entry) more ∙ filter_map-append second_entry before ((key, invariant) ∷ []));
-      firsts = rw more (firsts_push before (key, invariant) told.firsts first);
-    }
-  where
-    by : (found : Option (List ℕ)) → second_key key ≡ found
-        → option_map_or (λ k. with_entry old k invariant) found old
-        ≡ filter_map second_entry (take place entries) ++ filter_map second_entry ((key, invariant) ∷ [])
-    by None none = rw none (told.same ∙ sym (append-nil (filter_map second_entry (take place entries))))
-    by (Some second) some =
-        let new_key : is_among (keys_of old) second ≡ false =
-        rw told.same (other_keys (take place entries) key second (first second some) told.firsts (new_behind [] entries place (key, invariant) are is)) in
-        rw some (put_last old second invariant new_key ∙ ap (λ (others : List Entry). others ++ (second, invariant) ∷ []) told.same)

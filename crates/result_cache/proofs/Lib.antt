@@ -1,12 +1,13 @@
 pub mod EntryLemmas
+mod LinkLaws
 mod RowLaws
 mod BucketLaws
 mod PackedLaws
 mod InvariantRead
-mod KeysRead
 mod Taken
 pub mod Again
 mod CacheAnswers
 mod FirstKeys
+mod SecondWalk
 mod KeptLemmas
 mod ShortEntries

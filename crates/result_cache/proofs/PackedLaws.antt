@@ -1,19 +1,31 @@
 -- Entries that are added.
-use Rattle.std.proofs.Common.{◌≡◌, ◌≢◌, ◌==◌, ℕ, zero, suc, ◌+◌, ◌-◌, ◌<◌, ◌≤◌, ◌⊎◌, inl, inr, Bool, true, false, List, [], ◌∷◌, ◌++◌, take, drop, length, get_or, set, Some, None, Result, Ok, Err, refl, sym, ap, ◌∙◌, arith}
-use Rattle.std.specs.Prelude.{◌||◌, OnErr, OnOk, cond}
+use Rattle.std.proofs.Common.{◌≡◌, ◌≢◌, ◌==◌, ℕ, zero, suc, ◌+◌, ◌-◌, ◌<◌, ◌≤◌, ◌^◌, ◌⊎◌, inl, inr, Bool, true, false, List, [], ◌∷◌, ◌++◌, take, drop, length, get_or, set, Option, Some, None, Result, Ok, Err, refl, sym, ap, ◌∙◌, arith}
+use Rattle.std.specs.Prelude.{◌||◌, IfNone, IfSome, OnErr, OnOk, cond, is_some}
 use Rattle.std.specs.Bool.{Decides}
 use Rattle.std.specs.Str.{bytes_eq}
 use Rattle.std.proofs.Math.Seq.{map-set_same, take-append_seam, drop-append_seam, drop-append-add, take-length}
 use Rattle.std.proofs.lemmas.List.{map-set, drop-append-le, take-append-le, length-append, length-drop, length-set, map-append, get_or-set_same, get_or-set_other, get_or_append_left, get_or_default}
 use Rattle.std.proofs.lemmas.Bool.Decides.{eqb_tells}
 use Rattle.std.proofs.lemmas.Slice.Eq.{bytes_eq-Decides}
+use Rattle.cc_base.specs.Sink.{IsPrefix}
+use Rattle.result_cache.specs.declared.link.Link.{Link}
 use Rattle.result_cache.specs.declared.row.Row.{Row}
-use Rattle.result_cache.specs.Buckets.{AreChained, AreRows, IsLast, bucket_at, bucket_of, next_at, no_row}
+use Rattle.result_cache.specs.Buckets.{AreChained, AreRows, IsLast, bucket_at, bucket_of, hash_of, head_of, next_at, no_row, with_head}
 use Rattle.result_cache.specs.Entries.{AreDistinct, Entry, IsKeyAt, invariant_of, is_among, keys_of, with_entry}
-use Rattle.result_cache.specs.Rows.{AreWithin, Extends, IsWithin, entries_in, entry_in, key_in, keys_in, row_behind, value_in, with_next}
-use Rattle.result_cache.proofs.BucketLaws.{bucket_below, chained_more}
+use Rattle.result_cache.specs.Links.{link_to, mark_of, no_link}
+use Rattle.result_cache.specs.Rows.{AreWithin, IsWithin, entries_in, entry_in, key_in, keys_in, row_after, value_in, with_next}
+use Rattle.result_cache.proofs.BucketLaws.{chained_more, none_under_way}
 use Rattle.result_cache.proofs.EntryLemmas.{put_last}
 use Rattle.result_cache.proofs.RowLaws.{length_entries, length_keys, within_set}
+
+-- No rows, whose buckets are empty.
+pub no_rows : (bytes : List ℕ) (heads : List Link) → ((bucket : ℕ) → get_or heads bucket no_link ≡ no_link) → AreRows bytes [] heads
+no_rows bytes heads empty = record {
+  within = tt;
+  distinct = λ i j early later same. absurd (omega (arith, early));
+  chained = (none_under_way bytes [] heads tt empty).chained;
+  few = omega arith;
+}
 
 -- ---- more bytes
 
@@ -42,37 +54,37 @@ within_behind bytes rest (row ∷ rows) are = (
   within_behind bytes rest rows are.1,
 )
 
-pub rows_behind : (bytes more : List ℕ) (rows : List Row) (heads : List ℕ) → Extends bytes more → AreRows bytes rows heads
+pub rows_behind : (bytes more : List ℕ) (rows : List Row) (heads : List Link) → IsPrefix bytes more → AreRows bytes rows heads
     → AreRows more rows heads
 rows_behind bytes more rows heads is are =
-    let entries = entries_behind bytes is.rest rows are.within in
-    rw is.same (record {
-      within = within_behind bytes is.rest rows are.within;
+    let entries = entries_behind bytes is.0 rows are.within in
+    rw is.1 (record {
+      within = within_behind bytes is.0 rows are.within;
       distinct = rw entries are.distinct;
       chained = rw entries are.chained;
       few = are.few;
     })
 
-pub same_entries : (bytes more : List ℕ) (rows : List Row) (heads : List ℕ) → Extends bytes more → AreRows bytes rows heads
+pub same_entries : (bytes more : List ℕ) (rows : List Row) (heads : List Link) → IsPrefix bytes more → AreRows bytes rows heads
     → entries_in more rows ≡ entries_in bytes rows
-same_entries bytes more rows heads is are = rw is.same (entries_behind bytes is.rest rows are.within)
+same_entries bytes more rows heads is are = rw is.1 (entries_behind bytes is.0 rows are.within)
 
 -- What stands behind bytes.
 
-key_new : (bytes key value : List ℕ) (next : ℕ) → key_in (bytes ++ (key ++ value)) (row_behind bytes key value next) ≡ key
+key_new : (bytes key value : List ℕ) (next : Link) → key_in (bytes ++ (key ++ value)) (row_after bytes key value next) ≡ key
 key_new bytes key value next =
     let size : (length bytes + length key) - length bytes ≡ length key = omega arith in
     rw (size, drop-append_seam bytes (key ++ value)) (take-append_seam key value)
 
-value_new : (bytes key value : List ℕ) (next : ℕ) → value_in (bytes ++ (key ++ value)) (row_behind bytes key value next) ≡ value
+value_new : (bytes key value : List ℕ) (next : Link) → value_in (bytes ++ (key ++ value)) (row_after bytes key value next) ≡ value
 value_new bytes key value next =
     let size : (length bytes + length key + length value) - (length bytes + length key) ≡ length value = omega arith in
     rw (size, drop-append-add bytes (key ++ value) (length key), drop-append_seam key value) (take-length value)
 
-entry_new : (bytes key value : List ℕ) (next : ℕ) → entry_in (bytes ++ (key ++ value)) (row_behind bytes key value next) ≡ (key, value)
+entry_new : (bytes key value : List ℕ) (next : Link) → entry_in (bytes ++ (key ++ value)) (row_after bytes key value next) ≡ (key, value)
 entry_new bytes key value next = rw (key_new bytes key value next, value_new bytes key value next) refl
 
-within_new : (bytes key value : List ℕ) (next : ℕ) → IsWithin (bytes ++ (key ++ value)) (row_behind bytes key value next)
+within_new : (bytes key value : List ℕ) (next : Link) → IsWithin (bytes ++ (key ++ value)) (row_after bytes key value next)
 within_new bytes key value next = record {
   key = omega arith;
   value = omega arith;
@@ -85,14 +97,14 @@ within_both : (bytes : List ℕ) (rows others : List Row) → AreWithin bytes ro
 within_both bytes [] others are more = more
 within_both bytes (row ∷ rows) others are more = (are.0, within_both bytes rows others are.1 more)
 
-pub entries_new : (bytes : List ℕ) (rows : List Row) (key value : List ℕ) (next : ℕ) → AreWithin bytes rows
-    → entries_in (bytes ++ (key ++ value)) (rows ++ row_behind bytes key value next ∷ []) ≡ entries_in bytes rows ++ (key, value) ∷ []
+pub entries_new : (bytes : List ℕ) (rows : List Row) (key value : List ℕ) (next : Link) → AreWithin bytes rows
+    → entries_in (bytes ++ (key ++ value)) (rows ++ row_after bytes key value next ∷ []) ≡ entries_in bytes rows ++ (key, value) ∷ []
 entries_new bytes rows key value next are =
-    map-append (entry_in (bytes ++ (key ++ value))) rows (row_behind bytes key value next ∷ [])
+    map-append (entry_in (bytes ++ (key ++ value))) rows (row_after bytes key value next ∷ [])
     ∙ rw (entries_behind bytes (key ++ value) rows are, entry_new bytes key value next) refl
 
-keys_new : (bytes : List ℕ) (rows : List Row) (key value : List ℕ) (next : ℕ) → AreWithin bytes rows
-    → keys_in (bytes ++ (key ++ value)) (rows ++ row_behind bytes key value next ∷ []) ≡ keys_in bytes rows ++ key ∷ []
+keys_new : (bytes : List ℕ) (rows : List Row) (key value : List ℕ) (next : Link) → AreWithin bytes rows
+    → keys_in (bytes ++ (key ++ value)) (rows ++ row_after bytes key value next ∷ []) ≡ keys_in bytes rows ++ key ∷ []
 keys_new bytes rows key value next are =
     ap keys_of (entries_new bytes rows key value next are) ∙ map-append (λ (e : Entry). e.0) (entries_in bytes rows) ((key, value) ∷ [])
 
@@ -141,18 +153,22 @@ distinct_more keys key are none i j early later same =
         let second = prefix j later two.1 in
         are i j first second (sym (get_or_append_left keys (key ∷ []) [] i first) ∙ same ∙ get_or_append_left keys (key ∷ []) [] j second)
 
-last_among : (count : ℕ) (keys rest : List (List ℕ)) (n bucket number : ℕ) → n ≤ length keys → IsLast count keys n bucket number
-    → IsLast count (keys ++ rest) n bucket number
-last_among count keys rest n bucket number few is = record {
+last_among : (count : ℕ) (keys rest : List (List ℕ)) (n bucket : ℕ) (link : Link) → n ≤ length keys → IsLast count keys n bucket link
+    → IsLast count (keys ++ rest) n bucket link
+last_among count keys rest n bucket link few is = record {
   within = is.within;
-  same = λ i some. ap (bucket_of count) (get_or_append_left keys rest [] i (omega (arith, few, some, is.within))) ∙ is.same i some;
-  all = λ i below here. is.all i below (ap (bucket_of count) (sym (get_or_append_left keys rest [] i (omega (arith, few, below)))) ∙ here);
+  same = λ i some. ap (λ (k : List ℕ). bucket_of count (hash_of k)) (get_or_append_left keys rest [] i (omega (arith, few, some, is.within))) ∙ is.same i some;
+  marked = λ i some. is.marked i some ∙ sym (ap (λ (k : List ℕ). mark_of (hash_of k)) (get_or_append_left keys rest [] i (omega (arith, few, some, is.within))));
+  first = λ i some first j early here.
+      is.first i some first j early
+      (ap (λ (k : List ℕ). bucket_of count (hash_of k)) (sym (get_or_append_left keys rest [] j (omega (arith, few, some, early, is.within)))) ∙ here);
+  all = λ i below here. is.all i below (ap (λ (k : List ℕ). bucket_of count (hash_of k)) (sym (get_or_append_left keys rest [] i (omega (arith, few, below)))) ∙ here);
 }
 
-chained_among : (count : ℕ) (keys rest : List (List ℕ)) (heads : List ℕ) (rows : List Row) (n : ℕ) → n ≤ length keys
+chained_among : (count : ℕ) (keys rest : List (List ℕ)) (heads : List Link) (rows : List Row) (n : ℕ) → n ≤ length keys
     → AreChained count keys heads rows n → AreChained count (keys ++ rest) heads rows n
 chained_among count keys rest heads rows n few are = record {
-  buckets = λ bucket below. last_among count keys rest n bucket (get_or heads bucket 0) few (are.buckets bucket below);
+  buckets = λ bucket below. last_among count keys rest n bucket (get_or heads bucket no_link) few (are.buckets bucket below);
   entries = λ i below.
       rw (get_or_append_left keys rest [] i (omega (arith, few, below)))
       (last_among count keys rest i (bucket_at count keys i) (next_at rows i) (omega (arith, few, below)) (are.entries i below));
@@ -162,42 +178,43 @@ last_row : (rows : List Row) (row : Row) → get_or (rows ++ row ∷ []) (length
 last_row [] row = refl
 last_row (first ∷ rows) row = last_row rows row
 
-pub pushed_rows : (bytes : List ℕ) (rows : List Row) (heads key value : List ℕ) → AreRows bytes rows heads
-    → length rows < length heads → is_among (keys_in bytes rows) key ≡ false
-    → AreRows (bytes ++ (key ++ value)) (rows ++ row_behind bytes key value (get_or heads (bucket_of (length heads) key) 0) ∷ [])
-    (set heads (bucket_of (length heads) key) (length rows + 1))
-pushed_rows bytes rows heads key value are room none =
+pub pushed_rows : (bytes : List ℕ) (rows : List Row) (heads : List Link) (key value : List ℕ) → AreRows bytes rows heads
+    → length rows < length heads → length rows + 1 < 2 ^ 23 → is_among (keys_in bytes rows) key ≡ false
+    → AreRows (bytes ++ (key ++ value)) (rows ++ row_after bytes key value (head_of heads (hash_of key)) ∷ [])
+    (with_head heads (hash_of key) (length rows + 1))
+pushed_rows bytes rows heads key value are room few none =
     let count = length heads in
-    let bucket = bucket_of count key in
-    let row = row_behind bytes key value (get_or heads bucket 0) in
-    let keys : keys_in (bytes ++ (key ++ value)) (rows ++ row ∷ []) ≡ keys_in bytes rows ++ key ∷ [] = keys_new bytes rows key value (get_or heads bucket 0) are.within in
+    let bucket = bucket_of count (hash_of key) in
+    let next = head_of heads (hash_of key) in
+    let row = row_after bytes key value next in
+    let keys : keys_in (bytes ++ (key ++ value)) (rows ++ row ∷ []) ≡ keys_in bytes rows ++ key ∷ [] = keys_new bytes rows key value next are.within in
     let long : length (rows ++ row ∷ []) ≡ length rows + 1 = omega (arith, length-append rows (row ∷ [])) in
     let one : length rows + 1 ≡ suc (length rows) = omega arith in
     record {
-      within = within_both (bytes ++ (key ++ value)) rows (row ∷ []) (within_behind bytes (key ++ value) rows are.within) (within_new bytes key value (get_or heads bucket 0), tt);
+      within = within_both (bytes ++ (key ++ value)) rows (row ∷ []) (within_behind bytes (key ++ value) rows are.within) (within_new bytes key value next, tt);
       distinct = rw keys (distinct_more (keys_in bytes rows) key are.distinct none);
-      chained = rw (keys, long, one, length-set heads bucket (suc (length rows)))
+      chained = rw (keys, long, one, length-set heads bucket (link_to (suc (length rows)) next (hash_of key)))
           (chained_more count (keys_in bytes rows ++ key ∷ []) heads rows (rows ++ row ∷ []) (length rows) key refl
-          (bucket_below count key (omega (arith, room)))
+          (omega (arith, room)) (omega (arith, few))
           (last_of (keys_in bytes rows) key (length rows) (sym (length_keys bytes rows)))
           (chained_among count (keys_in bytes rows) (key ∷ []) heads rows (length rows) (omega (arith, length_keys bytes rows)) are.chained)
           (λ i below. ap (λ (r : Row). r.next) (get_or_append_left rows (row ∷ []) no_row i below))
           (ap (λ (r : Row). r.next) (last_row rows row)));
-      few = omega (arith, room, long, length-set heads bucket (length rows + 1));
+      few = omega (arith, room, long, length-set heads bucket (link_to (length rows + 1) next (hash_of key)));
     }
 
 -- ---- another value
 
-within_replaced : (bytes : List ℕ) (rows : List Row) (i : ℕ) (key value : List ℕ) (next : ℕ) → AreWithin bytes rows
-    → AreWithin (bytes ++ (key ++ value)) (set rows i (row_behind bytes key value next))
+within_replaced : (bytes : List ℕ) (rows : List Row) (i : ℕ) (key value : List ℕ) (next : Link) → AreWithin bytes rows
+    → AreWithin (bytes ++ (key ++ value)) (set rows i (row_after bytes key value next))
 within_replaced bytes rows i key value next are =
-    within_set (bytes ++ (key ++ value)) rows i (row_behind bytes key value next) (within_behind bytes (key ++ value) rows are)
+    within_set (bytes ++ (key ++ value)) rows i (row_after bytes key value next) (within_behind bytes (key ++ value) rows are)
     (within_new bytes key value next)
 
-pub entries_replaced : (bytes : List ℕ) (rows : List Row) (i : ℕ) (key value : List ℕ) (next : ℕ) → AreWithin bytes rows
-    → entries_in (bytes ++ (key ++ value)) (set rows i (row_behind bytes key value next)) ≡ set (entries_in bytes rows) i (key, value)
+pub entries_replaced : (bytes : List ℕ) (rows : List Row) (i : ℕ) (key value : List ℕ) (next : Link) → AreWithin bytes rows
+    → entries_in (bytes ++ (key ++ value)) (set rows i (row_after bytes key value next)) ≡ set (entries_in bytes rows) i (key, value)
 entries_replaced bytes rows i key value next are =
-    map-set (entry_in (bytes ++ (key ++ value))) rows i (row_behind bytes key value next)
+    map-set (entry_in (bytes ++ (key ++ value))) rows i (row_after bytes key value next)
     ∙ rw (entries_behind bytes (key ++ value) rows are, entry_new bytes key value next) refl
 
 key_of_entry : (entries : List Entry) (i : ℕ) (d : Entry) → i < length entries → get_or (keys_of entries) i [] ≡ (get_or entries i d).0
@@ -210,11 +227,11 @@ keys_replaced : (entries : List Entry) (i : ℕ) (key value : List ℕ) → IsKe
 keys_replaced entries i key value is =
     map-set_same (λ (e : Entry). e.0) entries i (key, value) ([], []) (sym is.same ∙ key_of_entry entries i ([], []) is.within)
 
-pub replaced_rows : (bytes : List ℕ) (rows : List Row) (heads : List ℕ) (i : ℕ) (key value : List ℕ) → AreRows bytes rows heads
+pub replaced_rows : (bytes : List ℕ) (rows : List Row) (heads : List Link) (i : ℕ) (key value : List ℕ) → AreRows bytes rows heads
     → IsKeyAt (entries_in bytes rows) i key
-    → AreRows (bytes ++ (key ++ value)) (set rows i (row_behind bytes key value (next_at rows i))) heads
+    → AreRows (bytes ++ (key ++ value)) (set rows i (row_after bytes key value (next_at rows i))) heads
 replaced_rows bytes rows heads i key value are is =
-    let row = row_behind bytes key value (next_at rows i) in
+    let row = row_after bytes key value (next_at rows i) in
     let keys : keys_in (bytes ++ (key ++ value)) (set rows i row) ≡ keys_in bytes rows =
     ap keys_of (entries_replaced bytes rows i key value (next_at rows i) are.within) ∙ keys_replaced (entries_in bytes rows) i key value is in
     record {
@@ -289,43 +306,45 @@ none_at (e ∷ es) key none = by (bytes_eq key e.0) none (none_at es key)
 
 -- ---- what the code does
 
--- The fields of the entries once one is added.
-pub record IsPushed (bytes after : List ℕ) (rows all : List Row) (heads others key value : List ℕ) (row : Row) : Type 0 where
+-- The fields of the entries once one is added, whose key has this hash.
+pub record IsPushed (bytes after : List ℕ) (rows all : List Row) (heads others : List Link) (key value : List ℕ) (hash : ℕ) (row : Row)
+    : Type 0 where
   pub after_is : after ≡ bytes ++ (key ++ value)
-  pub row_is : row ≡ row_behind bytes key value 0
-  pub others_is : others ≡ set heads (bucket_of (length heads) key) (length rows + 1)
-  pub all_is : all ≡ rows ++ with_next row (get_or heads (bucket_of (length heads) key) 0) ∷ []
+  pub hash_is : hash ≡ hash_of key
+  pub row_is : row ≡ row_after bytes key value no_link
+  pub others_is : others ≡ with_head heads hash (length rows + 1)
+  pub all_is : all ≡ rows ++ with_next row (head_of heads hash) ∷ []
 
-pub pushed : (bytes after : List ℕ) (rows all : List Row) (heads others key value : List ℕ) (row : Row)
-    → IsPushed bytes after rows all heads others key value row → AreRows bytes rows heads
-    → length rows < length heads → is_among (keys_in bytes rows) key ≡ false → AreRows after all others
-pushed bytes after rows all heads others key value row is are room none =
-    rw (is.after_is, is.all_is, is.others_is, is.row_is) (pushed_rows bytes rows heads key value are room none)
+pub pushed : (bytes after : List ℕ) (rows all : List Row) (heads others : List Link) (key value : List ℕ) (hash : ℕ) (row : Row)
+    → IsPushed bytes after rows all heads others key value hash row → AreRows bytes rows heads
+    → length rows < length heads → length rows + 1 < 2 ^ 23 → is_among (keys_in bytes rows) key ≡ false → AreRows after all others
+pushed bytes after rows all heads others key value hash row is are room few none =
+    rw (is.after_is, is.all_is, is.others_is, is.row_is, is.hash_is) (pushed_rows bytes rows heads key value are room few none)
 
-pub pushed_entries : (bytes after : List ℕ) (rows all : List Row) (heads others key value : List ℕ) (row : Row)
-    → IsPushed bytes after rows all heads others key value row → AreRows bytes rows heads
+pub pushed_entries : (bytes after : List ℕ) (rows all : List Row) (heads others : List Link) (key value : List ℕ) (hash : ℕ) (row : Row)
+    → IsPushed bytes after rows all heads others key value hash row → AreRows bytes rows heads
     → entries_in after all ≡ entries_in bytes rows ++ (key, value) ∷ []
-pushed_entries bytes after rows all heads others key value row is are =
+pushed_entries bytes after rows all heads others key value hash row is are =
     rw (is.after_is, is.all_is, is.row_is)
-    (entries_new bytes rows key value (get_or heads (bucket_of (length heads) key) 0) are.within)
+    (entries_new bytes rows key value (head_of heads hash) are.within)
 
 -- The fields once an entry has another value.
 pub record IsReplaced (bytes after : List ℕ) (rows : List Row) (i : ℕ) (key value : List ℕ) (row last : Row) : Type 0 where
   pub after_is : after ≡ bytes ++ (key ++ value)
-  pub row_is : row ≡ row_behind bytes key value 0
+  pub row_is : row ≡ row_after bytes key value no_link
   pub last_is : last ≡ get_or rows i last
 
 next_is : (rows : List Row) (i : ℕ) (last : Row) → i < length rows → last ≡ get_or rows i last → last.next ≡ next_at rows i
 next_is rows i last below is = ap (λ (r : Row). r.next) (is ∙ get_or_default rows i last no_row below)
 
-pub replaced : (bytes after : List ℕ) (rows : List Row) (heads : List ℕ) (i : ℕ) (key value : List ℕ) (row last : Row)
+pub replaced : (bytes after : List ℕ) (rows : List Row) (heads : List Link) (i : ℕ) (key value : List ℕ) (row last : Row)
     → IsReplaced bytes after rows i key value row last → AreRows bytes rows heads → IsKeyAt (entries_in bytes rows) i key
     → AreRows after (set rows i (with_next row last.next)) heads
 replaced bytes after rows heads i key value row last is are at =
     let below : i < length rows = omega (arith, at.within, length_entries bytes rows) in
     rw (is.after_is, is.row_is, next_is rows i last below is.last_is) (replaced_rows bytes rows heads i key value are at)
 
-pub replaced_entries : (bytes after : List ℕ) (rows : List Row) (heads : List ℕ) (i : ℕ) (key value : List ℕ) (row last : Row)
+pub replaced_entries : (bytes after : List ℕ) (rows : List Row) (heads : List Link) (i : ℕ) (key value : List ℕ) (row last : Row)
     → IsReplaced bytes after rows i key value row last → AreRows bytes rows heads → IsKeyAt (entries_in bytes rows) i key
     → entries_in after (set rows i (with_next row last.next)) ≡ with_entry (entries_in bytes rows) key value
 replaced_entries bytes after rows heads i key value row last is are at =
@@ -333,7 +352,7 @@ replaced_entries bytes after rows heads i key value row last is are at =
     (entries_replaced bytes rows i key value last.next are.within ∙ put_at (entries_in bytes rows) i key value are.distinct at)
 
 -- The value at the row of a key.
-pub found_by_row : (bytes : List ℕ) (rows : List Row) (heads : List ℕ) (i : ℕ) (key value : List ℕ) (row : Row) → AreRows bytes rows heads
+pub found_by_row : (bytes : List ℕ) (rows : List Row) (heads : List Link) (i : ℕ) (key value : List ℕ) (row : Row) → AreRows bytes rows heads
     → IsKeyAt (entries_in bytes rows) i key → row ≡ get_or rows i row → value ≡ value_in bytes row
     → Some value ≡ invariant_of (entries_in bytes rows) key
 found_by_row bytes rows heads i key value row are at row_is value_is =
@@ -346,6 +365,17 @@ found_by_row bytes rows heads i key value row are at row_is value_is =
     entry_at bytes [] i d = refl
     entry_at bytes (first ∷ rows) zero d = refl
     entry_at bytes (first ∷ rows) (suc i) d = entry_at bytes rows i d
+
+-- Whether a key is found is whether it is there.
+pub found_told : (found : Option ℕ) (entries : List Entry) (key : List ℕ) → IfSome found (λ index. IsKeyAt entries index key)
+    → IfNone found (is_among (keys_of entries) key ≡ false) → is_some found ≡ is_among (keys_of entries) key
+found_told None entries key there absent = sym absent
+found_told (Some index) entries key there absent = by (is_among (keys_of entries) key) refl
+  where
+    by : (among : Bool) → is_among (keys_of entries) key ≡ among → true ≡ among
+    by true its = refl
+    by false its =
+        absurd (not_there (keys_of entries) key index its (omega (arith, there.within, length_keys_of entries)) there.same)
 
 -- An answer after which a key that was not there is last.
 pub pushed_last : {X F : Type 0} (answer : Result X F) (old new : List Entry) (key value : List ℕ)

@@ -55,6 +55,31 @@ sized_taken bytes at fits passed =
     (sym (take-append-drop size (drop (at + 4) bytes)) ∙ ap (λ (t : List ℕ). text ++ t) (drop-drop size (at + 4) bytes))
     ∙ sym (append_assoc (little_bytes 4 (length text)) text (drop (at + 4 + size) bytes))
 
+-- What the tests of an entry say where they are passed.
+pub record EntryPassed (bytes : List ℕ) (before : List Entry) (at : ℕ) : Type 0 where
+  pub key : first_of (sized_field bytes at).tests ≡ None
+  pub invariant : first_of (sized_field bytes (sized_field bytes at).next).tests ≡ None
+  pub new : is_among (keys_of before) (sized_field bytes at).value ≡ false
+  pub is : IsInvariant (sized_field bytes (sized_field bytes at).next).value
+
+pub entry_passed : (bytes : List ℕ) (before : List Entry) (at : ℕ) → first_of (entry_field bytes before at).tests ≡ None
+    → EntryPassed bytes before at
+unfolding entry_field key_field invariant_field
+entry_passed bytes before at passed =
+    let key = sized_field bytes at in
+    let invariant = sized_field bytes key.next in
+    let new = must (not (is_among (keys_of before) key.value)) (Form (at + 4)) in
+    let good = option_map (fault_inside (key.next + 4)) (first_states_fault invariant.value) in
+    let rest = invariant.tests ++ (good ∷ []) in
+    let first = none_before (key.tests ++ (new ∷ [])) rest passed in
+    let second = none_behind (key.tests ++ (new ∷ [])) rest passed in
+    record {
+      key = none_before key.tests (new ∷ []) first;
+      invariant = none_before invariant.tests (good ∷ []) second;
+      new = is_false _ (holds _ _ (none_here new [] (none_behind key.tests (new ∷ []) first)));
+      is = none_of _ _ (none_here good [] (none_behind invariant.tests (good ∷ []) second));
+    }
+
 record EntryTaken (bytes : List ℕ) (before : List Entry) (at : ℕ) : Type 0 where
   there : drop at bytes ≡ entry_bytes (entry_field bytes before at).value ++ drop (entry_field bytes before at).next bytes
   new : is_among (keys_of before) (entry_field bytes before at).value.0 ≡ false
@@ -66,17 +91,13 @@ unfolding entry_field key_field invariant_field entry_bytes
 entry_taken bytes before at fits passed =
     let key = sized_field bytes at in
     let invariant = sized_field bytes key.next in
-    let new = must (not (is_among (keys_of before) key.value)) (Form (at + 4)) in
-    let good = option_map (fault_inside (key.next + 4)) (first_states_fault invariant.value) in
-    let rest = invariant.tests ++ (good ∷ []) in
-    let first = none_before (key.tests ++ (new ∷ [])) rest passed in
-    let second = none_behind (key.tests ++ (new ∷ [])) rest passed in
+    let its = entry_passed bytes before at passed in
     record {
-      there = sized_taken bytes at fits (none_before key.tests (new ∷ []) first)
-          ∙ ap (λ (t : List ℕ). sized_bytes key.value ++ t) (sized_taken bytes key.next fits (none_before invariant.tests (good ∷ []) second))
+      there = sized_taken bytes at fits its.key
+          ∙ ap (λ (t : List ℕ). sized_bytes key.value ++ t) (sized_taken bytes key.next fits its.invariant)
           ∙ sym (append_assoc (sized_bytes key.value) (sized_bytes invariant.value) (drop invariant.next bytes));
-      new = is_false _ (holds _ _ (none_here new [] (none_behind key.tests (new ∷ []) first)));
-      is = none_of _ _ (none_here good [] (none_behind invariant.tests (good ∷ []) second));
+      new = its.new;
+      is = its.is;
     }
 
 record ManyTaken (bytes : List ℕ) (before : List Entry) (count at : ℕ) : Type 0 where

@@ -63,7 +63,7 @@ magic_tests bytes =
     ∷ must (is_form_number (slice_index bytes 3)) Version
     ∷ []
 
--- The entries, after their count. Nothing stands behind the last.
+-- The entries, after their count. Nothing stands after the last.
 unfoldable pub counted_entries : List ℕ → Parse (List Entry)
 counted_entries bytes =
     let entries = entry_fields (u32_at bytes 4) bytes 8 in

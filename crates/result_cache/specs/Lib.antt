@@ -4,5 +4,6 @@ pub mod Parses
 pub mod CacheFile
 pub mod FirstForm
 pub mod Spelling
+pub mod Links
 pub mod Rows
 pub mod Buckets

@@ -1,6 +1,7 @@
 -- Entries as stretches of one list of bytes.
-use Rattle.std.specs.Prelude.{◌≡◌, ℕ, ◌+◌, ◌-◌, ◌≤◌, List, ◌++◌, take, drop, length, map}
+use Rattle.std.specs.Prelude.{ℕ, ◌+◌, ◌-◌, ◌≤◌, List, take, drop, length, map}
 use Rattle.std.specs.List.{AllByRecursion}
+use Rattle.result_cache.specs.declared.link.Link.{Link}
 use Rattle.result_cache.specs.declared.row.Row.{Row}
 use Rattle.result_cache.specs.Entries.{Entry, keys_of}
 
@@ -29,14 +30,9 @@ pub record IsWithin (bytes : List ℕ) (row : Row) : Type 0 where
 abbrev pub AreWithin : List ℕ → List Row → Type 0
 AreWithin bytes rows = AllByRecursion (IsWithin bytes) rows
 
--- Bytes that begin with others.
-pub record Extends (bytes more : List ℕ) : Type 0 where
-  pub rest : List ℕ
-  pub same : more ≡ bytes ++ rest
-
--- Where an entry stands that was put behind these bytes.
-abbrev pub row_behind : List ℕ → List ℕ → List ℕ → ℕ → Row
-row_behind bytes key value next = record {
+-- Where an entry stands that was put after these bytes.
+abbrev pub row_after : List ℕ → List ℕ → List ℕ → Link → Row
+row_after bytes key value next = record {
   start = length bytes;
   middle = length bytes + length key;
   end = length bytes + length key + length value;
@@ -44,5 +40,5 @@ row_behind bytes key value next = record {
 }
 
 -- A row whose entry has another one before it in its bucket.
-abbrev pub with_next : Row → ℕ → Row
+abbrev pub with_next : Row → Link → Row
 with_next row next = record { start = row.start; middle = row.middle; end = row.end; next = next }

@@ -2,6 +2,7 @@
 
 ghost use Rattle.std.specs.Prelude.{◌≡◌, ◌++◌, [], ◌∷◌, false, length, option_map, slice_get, IfOk, IfSome, OnErr, OnOk};
 ghost use Rattle.invariant_codec.specs.Invariants.{IsInvariant};
+ghost use Rattle.result_cache.specs.Buckets.{hash_of};
 ghost use Rattle.result_cache.specs.Entries.{invariant_of, is_among, keys_of, with_entry};
 ghost use Rattle.result_cache.specs.Spelling.{file_bytes, IsCacheFile, kept};
 ghost use Rattle.result_cache.specs.declared.cache_form.CacheForm.TheVariants.{Second};
@@ -53,11 +54,12 @@ impl Cache {
         })
     }
 
-    /// Returns whether an entry has this key.
-    pub(crate) fn has(&self, key: &[u8]) -> bool
+    /// Returns whether an entry has this key, which has this hash.
+    pub(crate) fn has(&self, key: &[u8], hash: u64) -> bool
+        requires { hash ≡ hash_of key.now }
         ensures { result ≡ is_among (keys_of self.now) key.now }
     {
-        self.invariants.get(key).is_some()
+        self.invariants.find(key, hash).is_some()
     }
 
     /// The bytes of the invariant that is kept for a unit of these bytes, where there is one.
@@ -68,12 +70,12 @@ impl Cache {
         self.invariants.get(key)
     }
 
-    /// Keeps an invariant for the unit of these bytes: in its place where one was kept for it, else behind all others.
+    /// Keeps an invariant for the unit of these bytes: in its place where one was kept for it, else after all others.
     ///
     /// # Errors
     ///
-    /// Want of memory, also where all bytes together, with those that were replaced, are 2^32 or more. Then nothing has
-    /// changed.
+    /// Want of memory, also where all bytes together, with those that were replaced, are 2^32 or more, and where the
+    /// entries would be more than 8,388,607. Then nothing has changed.
     pub fn put(&mut self, key: &[u8], invariant: &[u8]) -> Result<(), NoMemory>
         requires { IsInvariant invariant.now }
         ensures ok { OnOk result (self.new ≡ with_entry self.old key.now invariant.now) }
@@ -82,21 +84,22 @@ impl Cache {
         self.invariants.insert(key, invariant)
     }
 
-    /// Keeps an invariant for a unit for which none was kept.
-    pub(crate) fn add(&mut self, key: &[u8], invariant: &[u8]) -> Result<(), NoMemory>
+    /// Keeps an invariant for a unit for which none was kept, and whose bytes have this hash.
+    pub(crate) fn add(&mut self, key: &[u8], hash: u64, invariant: &[u8]) -> Result<(), NoMemory>
+        requires hash { hash ≡ hash_of key.now }
         requires invariant { IsInvariant invariant.now }
         requires new { is_among (keys_of self.old) key.now ≡ false }
         ensures { OnOk result (self.new ≡ self.old ++ (key.now, invariant.now) ∷ []) }
     {
-        self.invariants.push(key, invariant)
+        self.invariants.push(key, hash, invariant)
     }
 
-    /// The entry at this place.
-    pub(crate) fn entry(&self, place: usize) -> Option<(&[u8], &[u8])>
-        ensures entry { option_map (λ e. (e.0.now, e.1.now)) result ≡ slice_get self.now place }
+    /// The entry at an index.
+    pub(crate) fn entry(&self, index: usize) -> Option<(&[u8], &[u8])>
+        ensures entry { option_map (λ e. (e.0.now, e.1.now)) result ≡ slice_get self.now index }
         ensures invariant { IfSome result (λ e. IsInvariant e.1.now) }
     {
-        self.invariants.entry(place)
+        self.invariants.entry(index)
     }
 
     /// The number of entries.
@@ -131,7 +134,7 @@ impl Entries for Cache {
         self.len()
     }
 
-    fn entry_at(&self, place: usize) -> Option<(&[u8], &[u8])> {
-        self.entry(place)
+    fn entry_at(&self, index: usize) -> Option<(&[u8], &[u8])> {
+        self.entry(index)
     }
 }

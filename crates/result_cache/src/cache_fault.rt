@@ -15,7 +15,7 @@ pub enum CacheFault {
     /// A field passes the end of the file.
     #[error("short at {0:08x}")]
     Short(u32),
-    /// A field breaks the form, or bytes are left behind the last entry.
+    /// A field breaks the form, or bytes are left after the last entry.
     #[error("form at {0:08x}")]
     Form(u32),
     /// The file has more bytes than a cache may have.

@@ -1,6 +1,7 @@
 //! Caches, read from their files.
 
 ghost use Rattle.std.specs.Prelude.{◌≡◌, ◌≤◌, List, length, Some, IfOk};
+ghost use Rattle.cc_base.specs.LittleEndian.{u32_at};
 ghost use Rattle.cc_base.specs.Tests.{first_of, GivesOnly, JudgesOrNoMemory};
 ghost use Rattle.cil_model.specs.declared.unit.Unit.{Unit as MethodUnit};
 ghost use Rattle.method_unit.specs.Units.{IsUnit};
@@ -25,43 +26,47 @@ use std::alloc::Global;
 /// The most bytes of a cache file.
 pub const MAX_CACHE_BYTES: usize = 67_108_864;
 
-/// The entries as they stand behind the magic of a file.
+/// The entries as they stand after the magic of a file, and their count.
 #[tactic(auto, using(cc_base::proofs::TestLemmas::appended, cc_base::proofs::TestLemmas::first_tests, cc_base::proofs::TestLemmas::carried), unfolding(crate::specs::CacheFile::counted_entries))]
-fn read_counted(alloc: Global, bytes: &[u8]) -> Result<Cache, CacheRefusal>
+fn read_counted(alloc: Global, bytes: &[u8]) -> Result<(Cache, u32), CacheRefusal>
     requires short { length bytes.now ≤ 2147483647 }
     ensures { JudgesOrNoMemory result (first_of (counted_entries bytes.now).tests)
-        (λ cache. cache ≡ entries_standing bytes.now) }
+        (λ read. (read.0 ≡ entries_standing bytes.now) × (read.1 ≡ u32_at bytes.now 4)) }
 {
     let count = read_u32(bytes, 4)?;
     let (cache, end) = read_each(alloc, bytes, 8, count)?;
     if bytes.len() > end as usize {
         return Err(CacheFault::Form(end).into());
     }
-    Ok(cache)
+    Ok((cache, count))
 }
 
-/// The form of a file, and the entries as they stand in it.
+/// The form of a file, the entries as they stand in it, and their count.
 #[tactic(auto, using(cc_base::proofs::TestLemmas::appended, cc_base::proofs::TestLemmas::first_tests, cc_base::proofs::TestLemmas::carried), unfolding(crate::specs::CacheFile::first_cache_fault))]
-fn read_standing(alloc: Global, bytes: &[u8]) -> Result<(CacheForm, Cache), CacheRefusal>
+fn read_standing(alloc: Global, bytes: &[u8]) -> Result<(CacheForm, Cache, u32), CacheRefusal>
     ensures { JudgesOrNoMemory result (first_cache_fault bytes.now)
-        (λ read. (read.0 ≡ form_of bytes.now) × (read.1 ≡ entries_standing bytes.now)) }
+        (λ read. (read.0 ≡ form_of bytes.now) × (read.1 ≡ entries_standing bytes.now) × (read.2 ≡ u32_at bytes.now 4)) }
 {
     if bytes.len() > MAX_CACHE_BYTES {
         return Err(CacheFault::Large.into());
     }
     let form = read_magic(bytes)?;
-    let cache = read_counted(alloc, bytes)?;
-    Ok((form, cache))
+    let (cache, count) = read_counted(alloc, bytes)?;
+    Ok((form, cache, count))
 }
 
-/// The entries that those of a file stand for.
+/// The entries that those of a file stand for. What was kept of a file of the first form is let go before it is walked
+/// once more.
 #[tactic(auto)]
 fn read_told(alloc: Global, bytes: &[u8]) -> Result<Cache, CacheRefusal>
     ensures { JudgesOrNoMemory result (first_cache_fault bytes.now) (IsCacheOf bytes.now) }
 {
-    let (form, cache) = read_standing(alloc, bytes)?;
+    let (form, cache, count) = read_standing(alloc, bytes)?;
     match form {
-        CacheForm::First => Ok(second_form(alloc, &cache)?),
+        CacheForm::First => {
+            drop(cache);
+            Ok(second_form(alloc, bytes, count)?)
+        }
         CacheForm::Second => Ok(cache),
     }
 }
@@ -76,8 +81,9 @@ impl Cache {
     ///
     /// Cost: linear in the number of bytes, but for what it costs to read a unit of the first form, and for keys that
     /// were made to stand in one bucket (buckets.rt). Room is taken for as many bytes as the file has, and 20 for each
-    /// entry that is counted, but for one in ten bytes at most. What is read of the first form is held twice then, and
-    /// the second time in vectors that grow.
+    /// entry that is counted, as far as so many bytes can be entries of distinct keys. A file of the first form is read
+    /// so too, and what was kept of it is let go; then it is walked once more, and as much room is taken for what its
+    /// entries stand for.
     pub fn read(alloc: Global, bytes: &[u8]) -> Result<Cache, CacheRefusal>
         // It is read where no test of the list fails; a fault is that of the first test that does.
         ensures judged { JudgesOrNoMemory result (first_cache_fault bytes.now) (λ cache. cache ≡ entries_of bytes.now) }
@@ -86,11 +92,12 @@ impl Cache {
         // A file of entries is read, in either form, unless memory runs out.
         ensures only { (form : Form) (entries : List Entry) → IsCacheFile form entries bytes.now → GivesOnly result
             (λ cache. cache ≡ entries_told form entries) }
-        // The first form of a unit stands for its key in the second form, and nothing else does.
+        // The first form of a unit stands for its key in the second form.
         ensures first { (unit : MethodUnit) → IsUnit unit → HasCounts UnitFirst unit →
             second_key (unit_spelling UnitFirst unit) ≡ Some (unit_bytes unit) }
         // Each invariant is short enough to be read.
         ensures short { IfOk result AreShort }
+        // In a file of the first form nothing else stands for a key.
         ensures firsts { IfOk result (λ _. form_of bytes.now ≡ First → AreFirst (entries_standing bytes.now)) }
     {
         read_told(alloc, bytes)

@@ -22,13 +22,13 @@ pub trait Entries {
     fn count(&self) -> usize
         ensures { result ≡ length (entries self.now) };
 
-    /// The entry at this place.
-    fn entry_at(&self, place: usize) -> Option<(&[u8], &[u8])>
-        ensures { option_map (λ e. (e.0.now, e.1.now)) result ≡ slice_get (entries self.now) place };
+    /// The entry at an index.
+    fn entry_at(&self, index: usize) -> Option<(&[u8], &[u8])>
+        ensures { option_map (λ e. (e.0.now, e.1.now)) result ≡ slice_get (entries self.now) index };
 }
 
-/// The bytes that are left of so many behind an entry, where it has room.
-fn left_behind(left: usize, key: &[u8], invariant: &[u8]) -> Option<usize>
+/// The bytes that are left of so many after an entry, where it has room.
+fn left_after(left: usize, key: &[u8], invariant: &[u8]) -> Option<usize>
     requires { left ≤ 67108864 }
     ensures { result ≡ if nat_le (entry_size (key.now, invariant.now)) left then Some (left - entry_size (key.now, invariant.now)) else None }
 {
@@ -49,12 +49,12 @@ fn kept_count<E: Entries>(entries: &E) -> usize
     ensures few { result ≤ 67108864 }
 {
     let mut left = MAX_ENTRY_BYTES;
-    for place in 0..entries.count() {
-        let Some((key, invariant)) = entries.entry_at(place) else {
-            return place;
+    for index in 0..entries.count() {
+        let Some((key, invariant)) = entries.entry_at(index) else {
+            return index;
         };
-        let Some(rest) = left_behind(left, key, invariant) else {
-            return place;
+        let Some(rest) = left_after(left, key, invariant) else {
+            return index;
         };
         left = rest;
     }
@@ -74,8 +74,8 @@ fn put_entries<E: Entries>(out: &mut Vec<u8>, entries: &E, count: usize) -> Resu
     requires { count ≤ length (E.entries entries.now) }
     ensures { OnOk result (out.new.items ≡ out.old.items ++ flat_map entry_bytes (take count (E.entries entries.now))) }
 {
-    for place in 0..count {
-        let Some((key, invariant)) = entries.entry_at(place) else {
+    for index in 0..count {
+        let Some((key, invariant)) = entries.entry_at(index) else {
             return Ok(());
         };
         put_sized(out, key)?;

@@ -1,12 +1,14 @@
 //! Entries, as they stand in a cache file.
 
-ghost use Rattle.std.specs.Prelude.{◌≡◌, ◌≤◌, ◌*◌, ◌++◌, [], ◌∷◌, false, length};
+ghost use Rattle.std.specs.Prelude.{◌≡◌, ◌+◌, ◌≤◌, ◌*◌, ◌++◌, [], ◌∷◌, false, length};
 ghost use Rattle.cc_base.specs.Tests.{first_of, Judges, JudgesOrNoMemory};
+ghost use Rattle.result_cache.specs.Buckets.{hash_of};
 ghost use Rattle.result_cache.specs.CacheFile.{entry_field, entry_fields, invariant_field, key_field};
 ghost use Rattle.invariant_codec.specs.Invariants.{IsInvariant};
 ghost use Rattle.result_cache.specs.Entries.{is_among, keys_of};
 ghost use Rattle.invariant_codec.specs.Parses.{IsRead};
 
+use crate::buckets::hash_of;
 use crate::cache::Cache;
 use crate::cache_fault::{CacheFault, CacheRefusal};
 use crate::fields::read_sized;
@@ -14,19 +16,24 @@ use cc_base::Refusal;
 use invariant_codec::{check_invariant, fault_at};
 use std::alloc::Global;
 
-/// The key at this offset, where these entries have no such key, and the offset after it.
+/// The key at this offset with its hash, where these entries have no such key, and the offset after it.
 #[tactic(auto, using(cc_base::proofs::TestLemmas::appended, cc_base::proofs::TestLemmas::first_tests), unfolding(crate::specs::CacheFile::key_field))]
-fn read_key<'a>(bytes: &'a [u8], at: u32, before: &Cache) -> Result<(&'a [u8], u32), CacheFault>
+fn read_key<'a>(
+    bytes: &'a [u8],
+    at: u32,
+    before: &Cache,
+) -> Result<(&'a [u8], u64, u32), CacheFault>
     requires short { length bytes.now ≤ 2147483647 }
     ensures { Judges result (first_of (key_field before.now bytes.now at).tests)
-        (λ read. IsRead bytes.now (key_field before.now bytes.now at) read.0.now read.1
-        × (is_among (keys_of before.now) read.0.now ≡ false)) }
+        (λ read. IsRead bytes.now (key_field before.now bytes.now at) read.0.now read.2
+        × (read.1 ≡ hash_of read.0.now) × (is_among (keys_of before.now) read.0.now ≡ false)) }
 {
     let (key, next) = read_sized(bytes, at)?;
-    if before.has(key) {
+    let hash = hash_of(key);
+    if before.has(key, hash) {
         return Err(CacheFault::Form(at + 4));
     }
-    Ok((key, next))
+    Ok((key, hash, next))
 }
 
 /// The bytes of an invariant at this offset, and the offset after them.
@@ -52,21 +59,27 @@ fn read_entry(alloc: Global, bytes: &[u8], at: u32, cache: &mut Cache) -> Result
         (λ next. (cache.new ≡ cache.old ++ (entry_field bytes.now cache.old at).value ∷ [])
         × (next ≡ (entry_field bytes.now cache.old at).next) × (next ≤ length bytes.now)) }
 {
-    let (key, at) = read_key(bytes, at, cache)?;
+    let (key, hash, at) = read_key(bytes, at, cache)?;
     let (invariant, next) = read_invariant(alloc, bytes, at)?;
-    cache.add(key, invariant)?;
+    cache.add(key, hash, invariant)?;
     Ok(next)
 }
 
 /// The fewest bytes of an entry: two lengths, and the two bytes of an invariant of no state.
 const LEAST_ENTRY_BYTES: usize = 10;
 
-/// As many entries as are counted, or as so many bytes can be.
-fn most_entries(bytes: &[u8], count: u32) -> usize
+/// The keys of less than three bytes. All others are in entries of three bytes more at least.
+const SHORT_KEYS: usize = 1 + 256 + 65_536;
+
+/// As many entries as are counted, or as so many bytes can be, with distinct keys.
+pub fn most_entries(bytes: &[u8], count: u32) -> usize
     ensures counted { result ≤ count }
     ensures bytes { result * 10 ≤ length bytes.now }
+    ensures keys { result * 13 ≤ length bytes.now + 855309 }
 {
-    (count as usize).min(bytes.len() / LEAST_ENTRY_BYTES)
+    let fit = bytes.len() / LEAST_ENTRY_BYTES;
+    let distinct = SHORT_KEYS + bytes.len() / (LEAST_ENTRY_BYTES + 3);
+    (count as usize).min(fit).min(distinct)
 }
 
 /// So many entries from this offset on, and the offset after them.

@@ -1,13 +1,17 @@
 //! Entries of files of the first form.
 
-ghost use Rattle.std.specs.Prelude.{◌≡◌, ℕ, ◌≤◌, List, Some, filter_map, length, option_map, IfOk, OnOk};
-ghost use Rattle.std.specs.List.{AllByRecursion};
+ghost use Rattle.std.specs.Prelude.{◌≡◌, ℕ, ◌≤◌, ◌++◌, List, [], ◌∷◌, Some, None, false, filter_map, length, option_map, IfOk, OnOk};
 ghost use Rattle.std.specs.Option.{option_map_or};
+ghost use Rattle.cc_base.specs.Tests.{first_of};
 ghost use Rattle.invariant_codec.specs.Invariants.{IsInvariant};
-ghost use Rattle.result_cache.specs.Entries.{AreEntries, with_entry};
+ghost use Rattle.result_cache.specs.CacheFile.{entry_fields};
+ghost use Rattle.result_cache.specs.Entries.{is_among, keys_of};
 ghost use Rattle.result_cache.specs.FirstForm.{AreFirst, has_first_number, IsFirstOf, second_entry, second_key};
 
+use crate::buckets::hash_of;
 use crate::cache::Cache;
+use crate::entry_reader::most_entries;
+use crate::fields::read_pair;
 use cc_base::{NoMemory, Refusal};
 use method_unit::{read_unit, unit_bytes};
 use std::alloc::{AllocError, Global};
@@ -35,8 +39,9 @@ fn second_key(alloc: Global, bytes: &[u8]) -> Result<Option<Vec<u8>>, NoMemory>
     }
 }
 
-/// Keeps the invariant under the key in the second form, where there is one.
-fn put_second(
+/// Adds the invariant under the key in the second form, where there is one. It is not looked for: distinct keys of the
+/// first form stand for distinct ones.
+fn add_second(
     alloc: Global,
     seconds: &mut Cache,
     key: &[u8],
@@ -44,28 +49,32 @@ fn put_second(
 ) -> Result<(), NoMemory>
     requires short { length key.now ≤ 2147483647 }
     requires invariant { IsInvariant invariant.now }
-    ensures value { OnOk result (seconds.new ≡ option_map_or (λ k. with_entry seconds.old k invariant.now) (second_key key.now) seconds.old) }
+    requires new { (second : List ℕ) → IsFirstOf key.now second → is_among (keys_of seconds.old) second ≡ false }
+    ensures value { OnOk result (seconds.new ≡ option_map_or (λ k. seconds.old ++ (k, invariant.now) ∷ []) (second_key key.now) seconds.old) }
     ensures first { OnOk result ((second : List ℕ) → second_key key.now ≡ Some second → IsFirstOf key.now second) }
 {
     match second_key(alloc, key)? {
-        Some(second) => seconds.put(&second, invariant),
+        Some(second) => seconds.add(&second, hash_of(&second), invariant),
         None => Ok(()),
     }
 }
 
-/// The entries that those of a file of the first form stand for.
-pub fn second_form(alloc: Global, cache: &Cache) -> Result<Cache, NoMemory>
-    requires are { AreEntries cache.now }
-    requires short { AllByRecursion (λ e. length e.0 ≤ 2147483647) cache.now }
-    ensures value { IfOk result (λ seconds. seconds ≡ filter_map second_entry cache.now) }
-    ensures first { IfOk result (λ _. AreFirst cache.now) }
+/// The entries that those of a file of the first form stand for, where no test of so many entries fails. The file is
+/// walked from entry to entry, and nothing of the first form is held.
+pub fn second_form(alloc: Global, bytes: &[u8], count: u32) -> Result<Cache, NoMemory>
+    requires short { length bytes.now ≤ 2147483647 }
+    requires passed { first_of (entry_fields count bytes.now 8).tests ≡ None }
+    ensures value { IfOk result (λ seconds. seconds ≡ filter_map second_entry (entry_fields count bytes.now 8).value) }
+    ensures first { IfOk result (λ _. AreFirst (entry_fields count bytes.now 8).value) }
 {
-    let mut seconds = Cache::none(alloc);
-    for place in 0..cache.len() {
-        let Some((key, invariant)) = cache.entry(place) else {
+    let mut seconds = Cache::with_capacity(alloc, most_entries(bytes, count), bytes.len())?;
+    let mut at = 8;
+    for _entry in 0..count {
+        let Ok((key, invariant, next)) = read_pair(bytes, at) else {
             return Ok(seconds);
         };
-        put_second(alloc, &mut seconds, key, invariant)?;
+        add_second(alloc, &mut seconds, key, invariant)?;
+        at = next;
     }
     Ok(seconds)
 }

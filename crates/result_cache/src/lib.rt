@@ -10,6 +10,7 @@ mod cache_writer;
 mod entry_reader;
 mod fields;
 mod first_form;
+mod link;
 mod packed;
 mod row;
 

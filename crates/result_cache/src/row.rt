@@ -3,14 +3,16 @@
 ghost use Rattle.std.specs.Prelude.{◌≡◌};
 ghost use Rattle.result_cache.specs.Rows.{IsWithin, key_in, value_in};
 
+use crate::link::Link;
+
 /// Where an entry stands in bytes: its key from `start` to `middle`, its value from there to `end`.
 #[derive(Clone, Copy)]
 pub struct Row {
     pub(crate) start: u32,
     pub(crate) middle: u32,
     pub(crate) end: u32,
-    /// The number of the entry before it in its bucket, counted from 1; 0 where there is none.
-    pub(crate) next: u32,
+    /// The entry before it in its bucket.
+    pub(crate) next: Link,
 }
 
 impl Row {

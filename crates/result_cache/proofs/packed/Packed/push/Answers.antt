@@ -17,22 +17,24 @@ returns-in_err-row-clause-err c =
 pub invariant_of-self-2 : goal.invariant_of-self-2
 invariant_of-self-2 c =
     pushed c.self.inside.bytes.items c.append.new.bytes.items c.make_room.new.rows.items c.add_row.new.rows.items
-    c.make_room.new.heads.items c.add_row.new.heads.items c.args.key.now c.args.value.now c.in_ok-row.row
+    c.make_room.new.heads.items c.add_row.new.heads.items c.args.key.now c.args.value.now c.args.hash c.in_ok-row.row
     (record {
       after_is = c.in_ok-row.ensures.bytes;
+      hash_is = c.requires.hash;
       row_is = c.in_ok-row.ensures.row;
       others_is = c.add_row.ensures.heads;
       all_is = c.add_row.ensures.rows;
-    }) (rw (← c.deref.ensures.value) c.make_room.ensures.rows) c.in_ok-make_room.ensures.bucket
+    }) (rw (← c.deref.ensures.value) c.make_room.ensures.rows) c.in_ok-make_room.ensures.bucket c.in_ok-make_room.ensures.number
     (subst (λ (entries : List Entry). is_among (keys_of entries) c.args.key.now ≡ false)
-    (sym (rw (← c.deref.ensures.value) c.make_room.ensures.entries ∙ c.self.view_is)) c.requires)
+    (sym (rw (← c.deref.ensures.value) c.make_room.ensures.entries ∙ c.self.view_is)) c.requires.new)
 
 pub returns-clause-ok : goal.returns-clause-ok
 returns-clause-ok c =
     pushed_entries c.self.inside.bytes.items c.append.new.bytes.items c.make_room.new.rows.items c.add_row.new.rows.items
-    c.make_room.new.heads.items c.add_row.new.heads.items c.args.key.now c.args.value.now c.in_ok-row.row
+    c.make_room.new.heads.items c.add_row.new.heads.items c.args.key.now c.args.value.now c.args.hash c.in_ok-row.row
     (record {
       after_is = c.in_ok-row.ensures.bytes;
+      hash_is = c.requires.hash;
       row_is = c.in_ok-row.ensures.row;
       others_is = c.add_row.ensures.heads;
       all_is = c.add_row.ensures.rows;
