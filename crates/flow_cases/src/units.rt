@@ -18,7 +18,7 @@ use unit_flow::UnitFlow;
 /// see the flows of the units.
 #[derive(Drop)]
 pub struct KnownUnits {
-    codes: Vec<UnitFlow>,
+    flows: Vec<UnitFlow>,
 }
 
 impl Model for KnownUnits {
@@ -33,16 +33,16 @@ impl Model for KnownUnits {
 
     ghost coded = { Prim.hlevel (codes, the_flow.the_row.coded) };
 
-    ghost view = { λ known. known.codes.items };
+    ghost view = { λ known. known.flows.items };
 
-    ghost invariant = { λ known. AllByRecursion IsLawful known.codes.items };
+    ghost invariant = { λ known. AllByRecursion IsLawful known.flows.items };
 }
 
 impl KnownUnits {
     /// No unit.
     pub fn new(alloc: Global) -> KnownUnits {
         KnownUnits {
-            codes: Vec::new(alloc),
+            flows: Vec::new(alloc),
         }
     }
 
@@ -51,7 +51,7 @@ impl KnownUnits {
         requires formed { IsUnit unit }
     {
         let code = UnitFlow::of(alloc, unit)?;
-        self.codes.push(code)?;
+        self.flows.push(code)?;
         Ok(())
     }
 
@@ -66,17 +66,21 @@ impl KnownUnits {
 
     /// All of them.
     pub fn codes(&self) -> &[UnitFlow]
-        ensures { result.now ≡ self.now }
+        ensures all { result.now ≡ self.now }
         ensures lawful { AllByRecursion IsLawful result.now }
     {
-        &self.codes
+        &self.flows
     }
 
     /// The last one.
     pub fn last(&self) -> Option<&UnitFlow>
         ensures lawful { IfSome result (λ code. IsLawful code.now) }
     {
-        self.codes.last()
+        let count = self.flows.len();
+        if count == 0 {
+            return None;
+        }
+        Some(&self.flows[count - 1])
     }
 }
 
