@@ -1,11 +1,12 @@
 //! The rules, by the keywords of cases.
 
+ghost use Rattle.std.specs.List.{AllByRecursion};
 ghost use Rattle.unit_flow.specs.Flow.{IsLawful};
 
 use crate::flows;
 use crate::flows::read_number;
-use crate::units::{KnownUnit, known_unit};
-use crate::verdicts::verdicts_text;
+use crate::units::KnownUnits;
+use crate::verdicts::{verdicts_text, world_text};
 use abs_state::Invariant;
 use invariant_checker::judge;
 use rule_text::{Failure, Line, Rules, check, check_yes};
@@ -13,14 +14,15 @@ use state_text::state;
 use std::alloc::Global;
 use transfer_rules::{has_shape, inductive};
 use unit_flow::UnitFlow;
+use world_checker::judge_world;
 
-/// The unit and the states of a case that is run.
+/// The units and the states of a case that is run.
 #[derive(Drop)]
 pub struct FlowRules {
     alloc: Global,
-    unit: Option<KnownUnit>,
-    /// What is told to hold at the start of each block.
-    invariant: Invariant,
+    units: KnownUnits,
+    /// For each unit, what is told to hold at the start of each of its blocks.
+    invariants: Vec<Invariant>,
 }
 
 /// No block has a state.
@@ -41,6 +43,22 @@ fn verdicts(
 {
     let found = judge(alloc, code, invariant)?;
     check(verdicts_text(alloc, found.as_slice())?, told)
+}
+
+/// `world 4 overflow proved | none`: the verdicts on each unit of the world.
+fn world(
+    alloc: Global,
+    codes: &[UnitFlow],
+    invariants: &[Invariant],
+    told: &str,
+) -> Result<(), Failure>
+    requires lawful { AllByRecursion IsLawful codes.now }
+{
+    if invariants.len() != codes.len() {
+        return Err(Failure::Unmet("there is an invariant for each unit"));
+    }
+    let found = judge_world(alloc, codes, invariants)?;
+    check(world_text(alloc, found.as_slice())?, told)
 }
 
 /// Asks what a rule tells of a unit and the states in its blocks.
@@ -67,21 +85,25 @@ fn ask_of(
 }
 
 impl FlowRules {
-    /// `unit 43435531..`: the unit of a file. No block has a state yet.
+    /// `unit 43435531..`: the next unit of the world, that of a file. None of its blocks has a state yet.
     fn begin(&mut self, digits: &str) -> Result<(), Failure> {
-        self.unit = Some(known_unit(self.alloc, digits)?);
-        self.invariant = no_states(self.alloc);
+        self.units.read(self.alloc, digits)?;
+        self.invariants.push(no_states(self.alloc))?;
         Ok(())
     }
 
-    /// `at 2 STATE`: the state at the start of a block. It takes the place of one that is there, or is the next one.
+    /// `at 2 STATE`: the state at the start of a block of the last unit. It takes the place of one that is there, or is
+    /// the next one.
     fn put(&mut self, argument: &str) -> Result<(), Failure> {
         let Some((block, told)) = argument.split_once(' ') else {
             return Err(Failure::Unread("a block and a state"));
         };
         let block = read_number(block)? as usize;
         let state = state(self.alloc, told)?;
-        let states = &mut self.invariant.states;
+        let Some(invariant) = self.invariants.last_mut() else {
+            return Err(Failure::Unread("a unit"));
+        };
+        let states = &mut invariant.states;
         if block > states.len() {
             return Err(Failure::Unread("the next block"));
         }
@@ -93,12 +115,12 @@ impl FlowRules {
         Ok(())
     }
 
-    /// Asks what a rule tells.
+    /// Asks what a rule tells of the last unit.
     fn ask(&self, keyword: &str, argument: &str) -> Result<(), Failure> {
-        let Some(unit) = &self.unit else {
+        let (Some(code), Some(invariant)) = (self.units.last(), self.invariants.last()) else {
             return Err(Failure::Unread("a unit"));
         };
-        ask_of(self.alloc, unit.code(), &self.invariant, keyword, argument)
+        ask_of(self.alloc, code, invariant, keyword, argument)
     }
 }
 
@@ -106,8 +128,8 @@ impl Rules for FlowRules {
     fn new(alloc: Global) -> FlowRules {
         FlowRules {
             alloc,
-            unit: None,
-            invariant: no_states(alloc),
+            units: KnownUnits::new(alloc),
+            invariants: Vec::new(alloc),
         }
     }
 
@@ -120,6 +142,10 @@ impl Rules for FlowRules {
             "at" => {
                 self.put(argument)?;
                 Ok(Line::Step)
+            }
+            "world" => {
+                world(self.alloc, self.units.codes(), &self.invariants, argument)?;
+                Ok(Line::Answer)
             }
             _ => {
                 self.ask(keyword, argument)?;

@@ -1,6 +1,7 @@
 //! Units that are read from the bytes of their files.
 
-ghost use Rattle.std.specs.Prelude.{IfOk};
+ghost use Rattle.std.specs.Prelude.{◌≡◌, IfOk, IfSome};
+ghost use Rattle.std.specs.List.{AllByRecursion};
 ghost use Rattle.method_unit.specs.Units.{IsUnit};
 ghost use Rattle.unit_flow.specs.Flow.{IsLawful};
 
@@ -13,41 +14,73 @@ use std::alloc::Global;
 use std::marker::Model;
 use unit_flow::UnitFlow;
 
-/// A unit with its graph and its kinds, of which states may be asked to flow along its edges. Contracts see the unit's
-/// flow.
+/// The units of a world, in order, with their graphs and kinds. States may be asked to flow along their edges. Contracts
+/// see the flows of the units.
 #[derive(Drop)]
-pub struct KnownUnit {
-    code: UnitFlow,
+pub struct KnownUnits {
+    flows: Vec<UnitFlow>,
 }
 
-impl Model for KnownUnit {
+impl Model for KnownUnits {
     ghost use Rattle.std.specs.Coded.{codes};
+    ghost use Rattle.std.specs.Prelude.{List};
+    ghost use Rattle.std.specs.List.{AllByRecursion};
     ghost use Rattle.unit_flow.specs.contracts.unit_flow.UnitFlow as the_flow;
     ghost use Rattle.unit_flow.specs.declared.unit_flow.UnitFlow.{UnitFlow};
     ghost use Rattle.unit_flow.specs.Flow.{IsLawful};
 
-    ghost Value = { UnitFlow };
+    ghost Value = { List UnitFlow };
 
     ghost coded = { Prim.hlevel (codes, the_flow.the_row.coded) };
 
-    ghost view = { λ known. known.code };
+    ghost view = { λ known. known.flows.items };
 
-    ghost invariant = { λ known. IsLawful known.code };
+    ghost invariant = { λ known. AllByRecursion IsLawful known.flows.items };
 }
 
-impl KnownUnit {
-    fn of(alloc: Global, unit: TypedUnit) -> Result<KnownUnit, NoMemory>
+impl KnownUnits {
+    /// No unit.
+    pub fn new(alloc: Global) -> KnownUnits {
+        KnownUnits {
+            flows: Vec::new(alloc),
+        }
+    }
+
+    /// Adds a unit.
+    fn add(&mut self, alloc: Global, unit: TypedUnit) -> Result<(), NoMemory>
         requires formed { IsUnit unit }
     {
         let code = UnitFlow::of(alloc, unit)?;
-        Ok(KnownUnit { code })
+        self.flows.push(code)?;
+        Ok(())
     }
 
-    /// The flow of the unit.
-    pub fn code(&self) -> &UnitFlow
-        ensures lawful { IsLawful result.now }
+    /// `43435531..`: adds the unit of a file in hexadecimal digits.
+    pub fn read(&mut self, alloc: Global, digits: &str) -> Result<(), Failure> {
+        let Some(bytes) = bytes_of_hex(alloc, digits)? else {
+            return Err(Failure::Unread("hexadecimal text"));
+        };
+        let unit = read_bytes(alloc, bytes.as_slice())?;
+        Ok(self.add(alloc, unit)?)
+    }
+
+    /// All of them.
+    pub fn codes(&self) -> &[UnitFlow]
+        ensures all { result.now ≡ self.now }
+        ensures lawful { AllByRecursion IsLawful result.now }
     {
-        &self.code
+        &self.flows
+    }
+
+    /// The last one.
+    pub fn last(&self) -> Option<&UnitFlow>
+        ensures lawful { IfSome result (λ code. IsLawful code.now) }
+    {
+        let count = self.flows.len();
+        if count == 0 {
+            return None;
+        }
+        Some(&self.flows[count - 1])
     }
 }
 
@@ -63,13 +96,4 @@ fn read_bytes(alloc: Global, bytes: &[u8]) -> Result<TypedUnit, Failure>
         Err(Refusal::Bad(fault)) => Err(Failure::Found(format!(in alloc; "{fault}")?)),
         Err(Refusal::NoMemory) => Err(Failure::NoMemory),
     }
-}
-
-/// The unit of a file in hexadecimal digits.
-pub fn known_unit(alloc: Global, digits: &str) -> Result<KnownUnit, Failure> {
-    let Some(bytes) = bytes_of_hex(alloc, digits)? else {
-        return Err(Failure::Unread("hexadecimal text"));
-    };
-    let unit = read_bytes(alloc, bytes.as_slice())?;
-    Ok(KnownUnit::of(alloc, unit)?)
 }

@@ -1,6 +1,6 @@
 //! The text of verdicts.
 
-use cil_model::FaultKind;
+use cil_model::{FaultKind, List};
 use invariant_checker::Verdict;
 use std::alloc::{AllocError, Global};
 
@@ -50,6 +50,19 @@ pub fn verdicts_text(alloc: Global, verdicts: &[Verdict]) -> Result<String, Allo
     }
     if text.is_empty() {
         text.push_str("none")?;
+    }
+    Ok(text)
+}
+
+/// The same of each unit of a world, with ` | ` between them.
+pub fn world_text(alloc: Global, world: &[List<Verdict>]) -> Result<String, AllocError> {
+    let mut text = String::new(alloc);
+    for verdicts in world {
+        if !text.is_empty() {
+            text.push_str(" | ")?;
+        }
+        let verdicts = verdicts_text(alloc, verdicts.as_slice())?;
+        text.push_str(verdicts.as_str())?;
     }
     Ok(text)
 }
