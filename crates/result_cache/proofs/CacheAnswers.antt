@@ -1,42 +1,49 @@
 -- What an answer says that the tests of a cache file judge.
-use Rattle.std.proofs.Common.{◌≡◌, ℕ, List, Result, Ok, Err, filter_map, sym, subst, ap, ap₂, ◌∙◌}
-use Rattle.std.specs.Prelude.{IfOk}
+use Rattle.std.proofs.Common.{◌≡◌, ℕ, ◌≤◌, List, length, None, Result, Ok, Err, sym, ap, ap₂, ◌∙◌}
+use Rattle.std.specs.Prelude.{IfOk, nat_le}
+use Rattle.std.proofs.lemmas.Bool.{le-leb}
 use Rattle.std.proofs.lemmas.Option.{none-some}
 use Rattle.cc_base.specs.LittleEndian.{IsBytes}
-use Rattle.cc_base.specs.Tests.{GivesOnly, JudgesOrNoMemory}
+use Rattle.cc_base.specs.Tests.{first_of, GivesOnly, JudgesOrNoMemory, must}
 use Rattle.cc_base.specs.declared.refusal.Refusal.{Refusal}
 use Rattle.cc_base.specs.declared.refusal.Refusal.TheVariants.{Bad, NoMemory}
+use Rattle.cc_base.proofs.TestLemmas.{first_of-append_none, first_of-none, must_hold}
 use Rattle.result_cache.specs.Forms.{form_of}
 use Rattle.result_cache.specs.declared.cache_form.CacheForm.{CacheForm}
-use Rattle.result_cache.specs.declared.cache_form.CacheForm.TheVariants.{First, Second}
-use Rattle.result_cache.specs.CacheFile.{entries_of, entries_standing, first_cache_fault}
+use Rattle.result_cache.specs.declared.cache_form.CacheForm.TheVariants.{First}
+use Rattle.result_cache.specs.CacheFile.{counted_entries, entries_of, entries_standing, first_cache_fault, magic_tests, MAX_CACHE_BYTES}
 use Rattle.result_cache.specs.Entries.{Entry}
-use Rattle.result_cache.specs.FirstForm.{AreFirst, entries_told, second_entry}
+use Rattle.result_cache.specs.FirstForm.{AreFirst, entries_told}
 use Rattle.result_cache.specs.Spelling.{IsCacheFile, IsCacheOf, IsFileOf}
 use Rattle.result_cache.specs.declared.cache_fault.CacheFault.{CacheFault}
+use Rattle.result_cache.specs.declared.cache_fault.CacheFault.TheVariants.{Large}
 use Rattle.result_cache.proofs.Again.{file_again}
 use Rattle.result_cache.proofs.Taken.{file_taken}
 
--- The cache of a file of the first form, and of one of the second.
+-- A file whose size and magic are passed has the faults of its entries.
+pub fault_behind : (bytes : List ℕ) → length bytes ≤ MAX_CACHE_BYTES → first_of (magic_tests bytes) ≡ None
+    → first_cache_fault bytes ≡ first_of (counted_entries bytes).tests
+unfolding first_cache_fault
+fault_behind bytes size passed =
+    first_of-none (must (nat_le (length bytes) MAX_CACHE_BYTES) Large) _ ((must_hold _ _).1 (le-leb _ _ size))
+    ∙ first_of-append_none (magic_tests bytes) _ passed
 
-pub firsts_told : (bytes : List ℕ) (standing cache : List Entry) → First ≡ form_of bytes → standing ≡ entries_standing bytes
-    → cache ≡ filter_map second_entry standing → AreFirst standing → IsCacheOf bytes cache
+-- What its entries stand for is the cache.
+pub told : (bytes : List ℕ) (form : CacheForm) (answer : Result (List Entry) (Refusal CacheFault)) → form ≡ form_of bytes
+    → first_cache_fault bytes ≡ first_of (counted_entries bytes).tests
+    → JudgesOrNoMemory answer (first_of (counted_entries bytes).tests)
+    (λ cache. (cache ≡ entries_told form (entries_standing bytes)) × (form ≡ First → AreFirst (entries_standing bytes)))
+    → JudgesOrNoMemory answer (first_cache_fault bytes) (IsCacheOf bytes)
 unfolding entries_of
-firsts_told bytes standing cache form stands is first = record {
-  same = is ∙ ap (filter_map second_entry) stands ∙ ap (λ (f : CacheForm). entries_told f (entries_standing bytes)) form;
-  firsts = λ _. subst AreFirst stands first;
-}
-
-second_is_not_first : {X : Type 0} → Second ≡ First → X
-second_is_not_first same = absurd cc
-
-pub seconds_told : (bytes : List ℕ) (cache : List Entry) → Second ≡ form_of bytes → cache ≡ entries_standing bytes
-    → IsCacheOf bytes cache
-unfolding entries_of
-seconds_told bytes cache form is = record {
-  same = is ∙ ap (λ (f : CacheForm). entries_told f (entries_standing bytes)) form;
-  firsts = λ first. second_is_not_first (form ∙ first);
-}
+told bytes form (Ok cache) is fault judged = (
+  fault ∙ judged.0,
+  record {
+    same = judged.1.0 ∙ ap (λ (f : CacheForm). entries_told f (entries_standing bytes)) is;
+    firsts = λ first. judged.1.1 (is ∙ first);
+  },
+)
+told bytes form (Err (Bad found)) is fault judged = fault ∙ judged
+told bytes form (Err NoMemory) is fault judged = tt
 
 -- What is read is what the file has.
 pub read_spelled : (bytes : List ℕ) (answer : Result (List Entry) (Refusal CacheFault)) → IsBytes bytes

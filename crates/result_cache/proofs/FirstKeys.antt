@@ -1,9 +1,7 @@
 -- Keys of the first form, and what stands for them.
-use Rattle.std.proofs.Common.{◌≡◌, ℕ, Bool, true, false, ◌||◌, List, [], ◌∷◌, ◌++◌, filter_map, cond, Option, Some, None, Err, refl, sym, subst, ap, ◌∙◌}
+use Rattle.std.proofs.Common.{◌≡◌, ℕ, Bool, true, false, List, [], ◌∷◌, ◌++◌, cond, Some, None, Err, refl, sym, subst, ap, ◌∙◌}
 use Rattle.std.specs.Prelude.{◌&&◌}
-use Rattle.std.specs.Str.{bytes_eq}
 use Rattle.std.proofs.lemmas.Option.{none-some}
-use Rattle.std.proofs.lemmas.Slice.Eq.{bytes_eq-Decides}
 use Rattle.cc_base.specs.Tests.{JudgesOrNoMemory}
 use Rattle.cc_base.specs.declared.refusal.Refusal.{Refusal}
 use Rattle.cc_base.specs.declared.refusal.Refusal.TheVariants.{Bad, NoMemory}
@@ -15,8 +13,8 @@ use Rattle.method_unit.proofs.UnitAgain.{one_unit, spelled_again}
 use Rattle.unit_form.specs.Spelling.{HasCounts, IsSpelledBy, unit_bytes, unit_spelling}
 use Rattle.unit_form.specs.declared.form.UnitForm.{UnitForm}
 use Rattle.unit_form.specs.declared.form.UnitForm.TheVariants.{First, Second, Third}
-use Rattle.result_cache.specs.Entries.{Entry, is_among, keys_of}
-use Rattle.result_cache.specs.FirstForm.{AreFirst, has_first_number, IsFirstOf, second_entry, second_key}
+use Rattle.result_cache.specs.Entries.{Entry}
+use Rattle.result_cache.specs.FirstForm.{AreFirst, has_first_number, IsFirstOf, second_key}
 
 -- ---- one key
 
@@ -93,35 +91,10 @@ first_key unit is counts =
 -- ---- all entries
 
 -- What stands for two keys is one key where they are one.
-one_first : (a b key : List ℕ) → IsFirstOf a key → IsFirstOf b key → a ≡ b
+pub one_first : (a b key : List ℕ) → IsFirstOf a key → IsFirstOf b key → a ≡ b
 one_first a b key first other =
     let same : first.unit ≡ other.unit = one_unit first.unit other.unit first.is_unit other.is_unit (first.kept ∙ sym other.kept) in
     sym first.spelled ∙ ap (unit_spelling First) same ∙ other.spelled
-
-neither : (a b : Bool) → (a || b) ≡ false → (a ≡ false) × (b ≡ false)
-neither true b e = absurd cc
-neither false b e = (refl, e)
-
--- A key that is none of those before it stands for a key that is none of those for which they stand.
-pub other_keys : (before : List Entry) (key second : List ℕ) → IsFirstOf key second → AreFirst before
-    → is_among (keys_of before) key ≡ false → is_among (keys_of (filter_map second_entry before)) second ≡ false
-other_keys [] key second is firsts new = refl
-other_keys (e ∷ es) key second is firsts new =
-    let apart = neither (bytes_eq key e.0) (is_among (keys_of es) key) new in
-    by (second_key e.0) refl apart.0 (other_keys es key second is firsts.1 apart.1)
-  where
-    differs : (k : List ℕ) (b : Bool) → second_key e.0 ≡ Some k → bytes_eq second k ≡ b → bytes_eq key e.0 ≡ false → b ≡ false
-    differs k true some equal apart =
-        let same : second ≡ k = (bytes_eq-Decides second k).0 equal in
-        let keys : key ≡ e.0 = one_first key e.0 k (subst (IsFirstOf key) same is) (firsts.0 k some) in
-        absurd (let wrong : true ≡ false = sym ((bytes_eq-Decides key e.0).1 keys) ∙ apart in cc)
-    differs k false some equal apart = refl
-
-    by : (found : Option (List ℕ)) → second_key e.0 ≡ found → bytes_eq key e.0 ≡ false
-        → is_among (keys_of (filter_map second_entry es)) second ≡ false
-        → is_among (keys_of (filter_map second_entry (e ∷ es))) second ≡ false
-    by None none apart later = rw none later
-    by (Some k) some apart later = rw some (rw (differs k _ some refl apart, later) refl)
 
 pub firsts_push : (before : List Entry) (e : Entry) → AreFirst before
     → ((key : List ℕ) → second_key e.0 ≡ Some key → IsFirstOf e.0 key) → AreFirst (before ++ e ∷ [])

@@ -8,6 +8,6 @@ mod Taken
 pub mod Again
 mod CacheAnswers
 mod FirstKeys
-mod SecondWalk
+mod FirstWalk
 mod KeptLemmas
 mod ShortEntries

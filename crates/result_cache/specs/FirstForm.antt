@@ -7,7 +7,7 @@ use Rattle.method_unit.specs.UnitFile.{first_unit_fault, unit_of}
 use Rattle.method_unit.specs.Units.{IsUnit}
 use Rattle.unit_form.specs.Spelling.{HasCounts, unit_bytes, unit_spelling}
 use Rattle.unit_form.specs.declared.form.UnitForm.TheVariants.{First as UnitFirst}
-use Rattle.result_cache.specs.Entries.{Entry}
+use Rattle.result_cache.specs.Entries.{Entry, is_among, keys_of}
 use Rattle.result_cache.specs.declared.cache_form.CacheForm.{CacheForm}
 use Rattle.result_cache.specs.declared.cache_form.CacheForm.TheVariants.{First, Second}
 
@@ -38,3 +38,9 @@ pub record IsFirstOf (bytes key : List ℕ) : Type 0 where
 -- What stands for a key in the second form is the first form of that key's unit.
 abbrev pub AreFirst : List Entry → Type 0
 AreFirst entries = AllByRecursion (λ e. (key : List ℕ) → second_key e.0 ≡ Some key → IsFirstOf e.0 key) entries
+
+-- Of these entries are held those that they stand for, and the keys of the others, by which they are known.
+pub record AreHeld (entries seconds others : List Entry) : Type 0 where
+  pub told : seconds ≡ filter_map second_entry entries
+  pub firsts : AreFirst entries
+  pub known : (key : List ℕ) → second_key key ≡ None → is_among (keys_of others) key ≡ is_among (keys_of entries) key

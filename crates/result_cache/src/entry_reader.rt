@@ -38,7 +38,7 @@ fn read_key<'a>(
 
 /// The bytes of an invariant at this offset, and the offset after them.
 #[tactic(auto, using(cc_base::proofs::TestLemmas::appended, cc_base::proofs::TestLemmas::first_tests, crate::proofs::InvariantRead::faulty, crate::proofs::InvariantRead::cut))]
-fn read_invariant(alloc: Global, bytes: &[u8], at: u32) -> Result<(&[u8], u32), CacheRefusal>
+pub fn read_invariant(alloc: Global, bytes: &[u8], at: u32) -> Result<(&[u8], u32), CacheRefusal>
     requires short { length bytes.now ≤ 2147483647 }
     ensures { JudgesOrNoMemory result (first_of (invariant_field bytes.now at).tests)
         (λ read. IsRead bytes.now (invariant_field bytes.now at) read.0.now read.1 × IsInvariant read.0.now) }

@@ -1,6 +1,6 @@
 //! Fields of a cache file.
 
-ghost use Rattle.std.specs.Prelude.{◌≡◌, ◌+◌, ◌≤◌, ◌++◌, length};
+ghost use Rattle.std.specs.Prelude.{◌≡◌, ◌+◌, ◌≤◌, length};
 ghost use Rattle.cc_base.specs.LittleEndian.{u32_at};
 ghost use Rattle.cc_base.specs.Tests.{first_of, Judges};
 ghost use Rattle.result_cache.specs.CacheFile.{magic_tests};
@@ -44,21 +44,6 @@ pub fn read_sized(bytes: &[u8], at: u32) -> Result<(&[u8], u32), CacheFault>
     check_field(bytes, start, size)?;
     let end = start + size;
     Ok((&bytes[start as usize..end as usize], end))
-}
-
-/// The key and the invariant at this offset, and the offset after them.
-#[tactic(auto, using(cc_base::proofs::TestLemmas::appended))]
-pub fn read_pair(bytes: &[u8], at: u32) -> Result<(&[u8], &[u8], u32), CacheFault>
-    requires short { length bytes.now ≤ 2147483647 }
-    ensures { Judges result
-        (first_of ((sized_field bytes.now at).tests ++ (sized_field bytes.now (sized_field bytes.now at).next).tests))
-        (λ read. (read.0.now ≡ (sized_field bytes.now at).value)
-        × IsRead bytes.now (sized_field bytes.now (sized_field bytes.now at).next) read.1.now read.2
-        × (length read.0.now ≤ length bytes.now)) }
-{
-    let (key, at) = read_sized(bytes, at)?;
-    let (invariant, next) = read_sized(bytes, at)?;
-    Ok((key, invariant, next))
 }
 
 /// The form of the file, by its first four bytes, `CCK1` or `CCK2`.
