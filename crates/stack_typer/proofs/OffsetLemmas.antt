@@ -41,12 +41,15 @@ pub stack_read : (is : List Instr) (stacks : Stacks) (at k : ℕ) (before : Opti
 stack_read is stacks at k before laid there same read =
     stack_there is stacks at k laid there ∙ sym (get_or_read stacks k before (omega (arith, there.within)) read None)
 
+-- The instruction of an index begins at its offset.
+pub begins_here : (is : List Instr) (k at : ℕ) (i : Instr) → slice_get is k ≡ Some i → i.at ≡ at → BeginsAt is at k
+begins_here is k at i here same = record { within = slice_get_within is k i here; offset = λ d. ap (λ (j : Instr). j.at) (get_or_from_slice_get is k i d here) ∙ same }
+
 -- As it is read at the instruction's index.
 pub stack_before : (is : List Instr) (stacks : Stacks) (k : ℕ) (i : Instr) (before : Option (List Kind)) → AreLaidOut is → slice_get is k ≡ Some i → length stacks ≡ length is
     → before ≡ get_or stacks k before → stack_at is stacks i.at ≡ before
 stack_before is stacks k i before laid here same read =
-    let there : BeginsAt is i.at k = record { within = slice_get_within is k i here; offset = λ d. ap (λ (j : Instr). j.at) (get_or_from_slice_get is k i d here) } in
-    stack_read is stacks i.at k before laid there same read
+    stack_read is stacks i.at k before laid (begins_here is k i.at i here refl) same read
 
 -- What comes of a stack that is there and one that comes.
 abbrev joined : Option (List Kind) → List Kind → Option (List Kind)

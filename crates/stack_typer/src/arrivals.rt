@@ -6,8 +6,9 @@ ghost use Rattle.cil_model.specs.Offsets.{AreLaidOut};
 ghost use Rattle.cil_model.specs.Passes.{arrived, come_to, come_to_all};
 ghost use Rattle.stack_typer.specs.Room.{changes_left, Tells};
 
+use crate::nearby::index_near;
 use crate::stack::Stack;
-use cil_model::{Instr, index_of};
+use cil_model::Instr;
 use std::alloc::AllocError;
 
 /// Merges a stack into what came before, where both merge, and says whether that changed anything.
@@ -26,12 +27,14 @@ fn arrive(before: &mut Option<Stack>, stack: &Stack) -> Result<bool, AllocError>
     }
 }
 
-/// Brings a stack to the instruction at an IL offset, if there is one, and says whether that changed anything.
-#[tactic(auto, using(cil_model::proofs::OffsetSearch::laid_rise, crate::proofs::OffsetLemmas::coming, crate::proofs::RoomLemmas::one_step))]
+/// Brings a stack to the instruction at an IL offset, if there is one, and says whether that changed anything. The
+/// instruction of the guessed index is tried first.
+#[tactic(auto, using(crate::proofs::OffsetLemmas::coming, crate::proofs::RoomLemmas::one_step))]
 fn come_to(
     instrs: &[Instr],
     stacks: &mut [Option<Stack>],
     stack: &Stack,
+    guess: usize,
     at: u32,
 ) -> Result<bool, AllocError>
     requires laid_out { AreLaidOut instrs.now }
@@ -39,17 +42,19 @@ fn come_to(
     ensures stacks { OnOk result (stacks.new ≡ come_to instrs.now stacks.old at stack.now) }
     ensures told { (most : ℕ) → length stack.now ≤ most → IfOk result (Tells most stacks.old stacks.new) }
 {
-    match index_of(instrs, at) {
+    match index_near(instrs, guess, at) {
         Some(index) => arrive(&mut stacks[index], stack),
         None => Ok(false),
     }
 }
 
-/// Brings a stack to the instructions at the IL offsets, and says whether that changed anything.
+/// Brings a stack to the instructions at the IL offsets, and says whether that changed anything. For each the
+/// instruction of the guessed index is tried first.
 pub fn come_to_all(
     instrs: &[Instr],
     stacks: &mut [Option<Stack>],
     stack: &Stack,
+    guess: usize,
     offsets: &[u32],
 ) -> Result<bool, AllocError>
     requires laid_out { AreLaidOut instrs.now }
@@ -59,7 +64,7 @@ pub fn come_to_all(
 {
     let mut changed = false;
     for at in offsets {
-        changed |= come_to(instrs, stacks, stack, *at)?;
+        changed |= come_to(instrs, stacks, stack, guess, *at)?;
     }
     Ok(changed)
 }

@@ -6,27 +6,40 @@ ghost use Rattle.cil_model.specs.Offsets.{AreLaidOut};
 ghost use Rattle.cil_model.specs.Passes.{stack_at, lowest_conflict};
 ghost use Rattle.stack_typer.specs.Successors.{conflict_at, lower};
 
+use crate::nearby::index_near;
 use crate::stack::Stack;
-use cil_model::{Instr, index_of};
+use cil_model::Instr;
 
-/// The stack before the instruction at an IL offset, if one came there.
-#[tactic(auto, using(cil_model::proofs::OffsetSearch::laid_rise, crate::proofs::OffsetLemmas::stack_read, crate::proofs::OffsetLemmas::no_stack_there))]
-fn stack_at<'a>(instrs: &[Instr], stacks: &'a [Option<Stack>], at: u32) -> Option<&'a Stack>
+/// The stack before the instruction at an IL offset, if one came there. The instruction of the guessed index is tried
+/// first, here as below.
+#[tactic(auto, using(crate::proofs::OffsetLemmas::stack_read, crate::proofs::OffsetLemmas::no_stack_there))]
+fn stack_at<'a>(
+    instrs: &[Instr],
+    stacks: &'a [Option<Stack>],
+    guess: usize,
+    at: u32,
+) -> Option<&'a Stack>
     requires laid_out { AreLaidOut instrs.now }
     requires same_length { length stacks.now ≡ length instrs.now }
     ensures { option_copied result ≡ stack_at instrs.now stacks.now at }
 {
-    let index = index_of(instrs, at)?;
+    let index = index_near(instrs, guess, at)?;
     stacks[index].as_ref()
 }
 
 /// The offset, where the stack does not merge with the one there.
-fn conflict_at(instrs: &[Instr], stacks: &[Option<Stack>], stack: &Stack, at: u32) -> Option<u32>
+fn conflict_at(
+    instrs: &[Instr],
+    stacks: &[Option<Stack>],
+    stack: &Stack,
+    guess: usize,
+    at: u32,
+) -> Option<u32>
     requires laid_out { AreLaidOut instrs.now }
     requires same_length { length stacks.now ≡ length instrs.now }
     ensures { result ≡ conflict_at instrs.now stacks.now stack.now at }
 {
-    match stack_at(instrs, stacks, at) {
+    match stack_at(instrs, stacks, guess, at) {
         Some(before) if !before.merges_with(stack) => Some(at),
         _ => None,
     }
@@ -48,6 +61,7 @@ pub fn lowest_conflict(
     instrs: &[Instr],
     stacks: &[Option<Stack>],
     stack: &Stack,
+    guess: usize,
     offsets: &[u32],
 ) -> Option<u32>
     requires laid_out { AreLaidOut instrs.now }
@@ -56,7 +70,7 @@ pub fn lowest_conflict(
 {
     let mut lowest = None;
     for at in offsets {
-        lowest = lower(lowest, conflict_at(instrs, stacks, stack, *at));
+        lowest = lower(lowest, conflict_at(instrs, stacks, stack, guess, *at));
     }
     lowest
 }

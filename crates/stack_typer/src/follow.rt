@@ -34,12 +34,12 @@ pub fn follow(
         return Err(Refusal::Bad(TypeFault::FallsOff(instr.at)));
     };
     let targets = branch_targets(&instr.op);
-    let at_targets = lowest_conflict(instrs, stacks, stack, targets);
-    let at_next = lowest_conflict(instrs, stacks, stack, next);
+    let at_targets = lowest_conflict(instrs, stacks, stack, index + 1, targets);
+    let at_next = lowest_conflict(instrs, stacks, stack, index + 1, next);
     if let Some(at) = lower(at_targets, at_next) {
         return Err(Refusal::Bad(TypeFault::Conflict(at)));
     }
-    let by_targets = come_to_all(instrs, stacks, stack, targets)?;
-    let by_next = come_to_all(instrs, stacks, stack, next)?;
+    let by_targets = come_to_all(instrs, stacks, stack, index + 1, targets)?;
+    let by_next = come_to_all(instrs, stacks, stack, index + 1, next)?;
     Ok(by_targets | by_next)
 }

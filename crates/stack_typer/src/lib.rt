@@ -8,6 +8,7 @@ mod conflicts;
 mod follow;
 mod kinds;
 mod merging;
+mod nearby;
 mod operands;
 mod operations;
 mod passes;
