@@ -84,6 +84,9 @@ impl Contents {
         requires other { AllByRecursion HasForm other.now }
         ensures { IfOk result (λ is. is ≡ included (O.gap order.now) names.now self.now bound.now other.now) }
     {
+        if other.segments.is_empty() {
+            return Ok(true);
+        }
         let null = null_segments(alloc)?;
         Ok(self.includes_each(order, names, &null, bound, &other.segments))
     }

@@ -109,6 +109,9 @@ impl Contents {
         requires ends { EachStands pairs.now self.now other.now keys.now lengths.now }
         ensures { IfOk result (λ both. both ≡ merged (making way) pairs.now self.now other.now keys.now lengths.now) }
     {
+        if keys.is_empty() {
+            return Ok(Contents::new(alloc));
+        }
         let null = null_segments(alloc)?;
         let mut segments = Vec::with_capacity(alloc, keys.len())?;
         for place in 0..keys.len() {

@@ -53,6 +53,9 @@ impl Contents {
         requires ends { EachIsNamed names.now self.now keys.now }
         ensures { IfOk result (λ new. new ≡ renamed_each names.now self.now keys.now) }
     {
+        if keys.is_empty() {
+            return Ok(Contents::new(alloc));
+        }
         let null = null_segments(alloc)?;
         let mut segments = Vec::with_capacity(alloc, keys.len())?;
         for key in keys {

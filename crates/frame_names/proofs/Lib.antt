@@ -6,3 +6,4 @@ pub mod BindingLaws
 pub mod TableLaws
 pub mod NearLaws
 pub mod NameCounts
+pub mod OwnFrames

@@ -1,6 +1,6 @@
 //! The variables of a state and its table of references.
 
-ghost use Rattle.std.specs.Prelude.{◌≡◌, length, map, IfOk};
+ghost use Rattle.std.specs.Prelude.{◌≡◌, ◌++◌, length, map, IfOk, OnOk};
 ghost use Rattle.frame_names.specs.Frames.{length_at, numbers_of, references_of};
 ghost use Rattle.frame_names.specs.PairedFrames.{exprs_of, old_of};
 
@@ -26,11 +26,16 @@ pub(crate) fn references_of(alloc: Global, vars: &[Var]) -> Result<Vec<u32>, NoM
     vars.iter().filter_map(|var| var.reference()).collect(alloc)
 }
 
-/// The numbers of variables, in order.
-fn numbers_of(alloc: Global, vars: &[Var]) -> Result<Vec<Expr>, NoMemory>
-    ensures { IfOk result (λ exprs. exprs.items ≡ numbers_of vars.now) }
+/// Appends the numbers of variables, in order.
+fn push_numbers(exprs: &mut Vec<Expr>, vars: &[Var]) -> Result<(), NoMemory>
+    ensures { OnOk result (exprs.new.items ≡ exprs.old.items ++ numbers_of vars.now) }
 {
-    vars.iter().filter_map(|var| var.number()).collect(alloc)
+    for var in vars {
+        if let Some(number) = var.number() {
+            exprs.push(number)?;
+        }
+    }
+    Ok(())
 }
 
 /// How many variables have a number.
@@ -47,19 +52,20 @@ fn old_of(is_first: bool, key: &Key) -> u32
     if is_first { key.s } else { key.t }
 }
 
-/// The lengths of paired references in one of the states.
-fn lengths_of(
-    alloc: Global,
+/// Appends the lengths of paired references in one of the states.
+fn push_lengths(
+    exprs: &mut Vec<Expr>,
     table: &[Reference],
     is_first: bool,
     keys: &[Key],
-) -> Result<Vec<Expr>, NoMemory>
-    ensures { IfOk result (λ exprs. exprs.items ≡
-        map (λ key. length_at table.now (old_of is_first key)) keys.now) }
+) -> Result<(), NoMemory>
+    ensures { OnOk result (exprs.new.items ≡
+        exprs.old.items ++ map (λ key. length_at table.now (old_of is_first key)) keys.now) }
 {
-    keys.iter()
-        .map(|key| length_of(table, old_of(is_first, key)))
-        .collect(alloc)
+    for key in keys {
+        exprs.push(length_of(table, old_of(is_first, key)))?;
+    }
+    Ok(())
 }
 
 impl<'a> Frame<'a> {
@@ -74,9 +80,9 @@ impl<'a> Frame<'a> {
         ensures { IfOk result (λ exprs. exprs.items ≡
             exprs_of self.now.vars.now self.now.references.now is_first keys.now) }
     {
-        let mut exprs = numbers_of(alloc, self.vars)?;
-        let lengths = lengths_of(alloc, self.references, is_first, keys)?;
-        exprs.extend_from_slice(lengths.as_slice())?;
+        let mut exprs = Vec::with_capacity(alloc, self.vars.len())?;
+        push_numbers(&mut exprs, self.vars)?;
+        push_lengths(&mut exprs, self.references, is_first, keys)?;
         Ok(exprs)
     }
 }

@@ -177,20 +177,18 @@ fn own_pairs(alloc: Global, vars: &[Var]) -> Result<ReferencePairs, NoMemory>
 }
 
 /// The numbers of a frame named together with themselves, and behind them the lengths of its references.
-#[tactic(auto, using(crate::proofs::FrameLemmas::same_exprs, crate::proofs::FrameLemmas::near_exprs, crate::proofs::FrameLemmas::alike_itself))]
+#[tactic(auto, using(crate::proofs::FrameLemmas::near_exprs, crate::proofs::OwnFrames::own_pairing))]
 fn own_numbers(alloc: Global, references: &ReferencePairs, frame: &Frame) -> Result<Pairs, NoMemory>
-    requires { IsNearFrame frame.now.vars.now frame.now.references.now }
+    requires near { IsNearFrame frame.now.vars.now frame.now.references.now }
+    requires own { references.now.pairs ≡ pairs_of frame.now.vars.now frame.now.vars.now }
     ensures { IfOk result (λ pairs. pairs ≡ pairing_by references.now.pairs
         frame.now.vars.now frame.now.references.now frame.now.vars.now frame.now.references.now) }
 {
     let keys = references.pairs.keys.as_slice();
-    let first = Env {
+    let env = Env {
         exprs: frame.exprs(alloc, true, keys)?,
     };
-    let second = Env {
-        exprs: frame.exprs(alloc, false, keys)?,
-    };
-    pair_up(alloc, &first, &second)
+    pair_up(alloc, &env, &env)
 }
 
 /// The frame of a state named together with itself.

@@ -8,7 +8,7 @@ ghost use Rattle.frame_names.specs.Binding.{all_filled, bound_by, expr_of, fits,
 use crate::reference::{Reference, are_one_place, nullness_of, place_of};
 use alias_facts::Nullness;
 use domain_api::{Expr, NoMemory, Order, gap_is_at_least};
-use std::alloc::Global;
+use std::alloc::{AllocError, Global};
 use std::marker::Model;
 
 /// What a symbol is bound to: the value of another state's expression, less an offset.
@@ -155,8 +155,9 @@ pub(crate) fn bind_reference(
 fn free_behind<T: Copy>(alloc: Global, first: T, count: usize) -> Result<Vec<Option<T>>, NoMemory>
     ensures { IfOk result (λ slots. slots.items ≡ Some first ∷ replicate count None) }
 {
-    let mut slots = vec![in alloc; None; count]?;
-    slots.insert(0, Some(first))?;
+    let all = count.checked_add(1).ok_or(AllocError)?;
+    let mut slots = vec![in alloc; None; all]?;
+    slots[0] = Some(first);
     Ok(slots)
 }
 

@@ -1,6 +1,6 @@
 //! Pairs of expressions, by their keys.
 
-ghost use Rattle.std.specs.Prelude.{◌≡◌, map, IfOk};
+ghost use Rattle.std.specs.Prelude.{◌≡◌, [], map, IfOk};
 ghost use Rattle.std.specs.List.{position};
 ghost use Rattle.symbolic_values.specs.Identities.{identity_of};
 ghost use Rattle.symbolic_values.specs.Pairing.{same_key, use_of};
@@ -75,6 +75,17 @@ fn place_in(keys: &[Key], table: &IndexSet<Identity>, e: Expr, f: Expr) -> Optio
 }
 
 impl Pairs {
+    /// No pairs.
+    pub(crate) fn none(alloc: Global) -> Pairs
+        ensures { result ≡ record { keys = []; exprs = [] } }
+    {
+        Pairs {
+            keys: Vec::new(alloc),
+            exprs: Vec::new(alloc),
+            table: None,
+        }
+    }
+
     /// These keys and expressions, with a table of the keys.
     pub(crate) fn with_table(
         keys: Vec<Key>,

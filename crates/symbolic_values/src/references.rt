@@ -34,6 +34,10 @@ pub fn pair_references(alloc: Global, a: &[u32], b: &[u32]) -> Result<ReferenceP
     requires { length a.now ≡ length b.now }
     ensures { IfOk result (λ references. references.pairs ≡ paired_references a.now b.now) }
 {
+    if a.is_empty() {
+        let pairs = Pairs::none(alloc);
+        return Ok(ReferencePairs { pairs });
+    }
     let first = as_exprs(alloc, a)?;
     let second = as_exprs(alloc, b)?;
     let pairs = pair(alloc, first.as_slice(), second.as_slice())?;
