@@ -107,7 +107,7 @@ negated_there facts e there = record {
 
 -- ---- the difference of two expressions of one symbol
 
-is_same : (m n : ℕ) → m ≡ n → (m == n) ≡ true
+pub is_same : (m n : ℕ) → m ≡ n → (m == n) ≡ true
 is_same m n same = grind (arith, nat_tests, same)
 
 is_other : (m n : ℕ) → m ≢ n → (m == n) ≡ false

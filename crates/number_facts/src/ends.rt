@@ -46,7 +46,7 @@ fn sum_of(a: i64, b: i64) -> i128
 }
 
 /// A number of 64 bits.
-pub(crate) fn wide(n: i64) -> i128
+fn wide(n: i64) -> i128
     ensures value { result ≡ n }
     ensures bound { IsSum result }
     ensures small { FitsSigned w32 n → IsCut result }
@@ -240,7 +240,7 @@ impl Numbers {
 
     /// The ends that are stored of a symbol.
     #[tactic(auto, using(crate::proofs::Small::narrow_ends))]
-    fn stored_ends(&self, s: u32) -> CutEnds
+    pub(crate) fn stored_ends(&self, s: u32) -> CutEnds
         ensures low { result.lo ≡ (range_at self.now s).lo }
         ensures high { result.hi ≡ (range_at self.now s).hi }
         ensures sums { AreSums result }
