@@ -21,4 +21,3 @@ pub mod OperatorLaws
 pub mod ResultLaws
 pub mod ResultForms
 pub mod SpanLists
-pub mod RowEnds

@@ -1,5 +1,5 @@
 -- How large the ends are that bounds cut, where the stored ranges are of int32.
-use Rattle.std.proofs.Common.{◌≡◌, ◌≢◌, ◌==◌, ℕ, true, false, sym, ◌∙◌, ap, zero, suc, ℤ, pos, negsuc, ◌+ℤ◌, ◌-ℤ◌, ◌≤ℤ◌, FitsSigned, w32, List, [], ◌∷◌, get_or, refl, arith}
+use Rattle.std.proofs.Common.{◌≡◌, ◌≢◌, ◌==◌, ℕ, true, false, sym, ◌∙◌, ap, zero, suc, ℤ, pos, negsuc, ◌+ℤ◌, ◌-ℤ◌, ◌≤ℤ◌, FitsSigned, w32, List, [], ◌∷◌, None, get_or, refl, arith}
 use Rattle.std.specs.List.{AllByRecursion}
 use Rattle.std.specs.Int.{int_min, int_max}
 use Rattle.std.proofs.lemmas.Int.{ints, clamps}
@@ -20,7 +20,7 @@ use Rattle.number_spans.specs.declared.span.Span.{Span}
 use Rattle.number_facts.specs.Ends.{met, range_of, span_at}
 use Rattle.number_facts.specs.Facts.{Facts, AreNarrow, IsThere, range_at}
 use Rattle.number_facts.specs.Sizes.{AreNear, IsCut, IsNear}
-use Rattle.number_facts.proofs.Cutting.{none_to_zero}
+use Rattle.number_facts.proofs.Cutting.{none_from_zero, none_to_zero}
 
 narrow_zero : IsNarrow (one (pos 0))
 narrow_zero = record { least = omega (arith, ints); ordered = omega (arith, ints); greatest = omega (arith, ints); inner = tt }
@@ -76,6 +76,15 @@ zero_low : (facts : Facts) → AreBounds facts.bounds → (span_at facts 0).lo �
 unfolding span_at met range_at
 zero_low facts form = rw (none_to_zero facts.bounds form) refl
 
+pub only_zero : (facts : Facts) (s : ℕ) → AreBounds facts.bounds → s ≡ 0 → met (pos 0) (pos 0) None ≡ span_at facts s
+unfolding span_at range_at
+only_zero facts s form none =
+    let zero : met (pos 0) (pos 0) None ≡ span_at facts 0 =
+    rw (none_to_zero facts.bounds form, none_from_zero facts.bounds form) refl in
+    rw none zero
+
+pub ruleset no_bounds = (only_zero)
+
 -- the numbers of a constant begin with it
 pub constant_low : (facts : Facts) (e : Expr) (r : Span) → r ≡ range_of facts e → AreBounds facts.bounds → e.sym ≡ 0 → r.lo ≡ e.k
 unfolding range_of shifted
@@ -98,7 +107,7 @@ negated_there facts e there = record {
 
 -- ---- the difference of two expressions of one symbol
 
-is_same : (m n : ℕ) → m ≡ n → (m == n) ≡ true
+pub is_same : (m n : ℕ) → m ≡ n → (m == n) ≡ true
 is_same m n same = grind (arith, nat_tests, same)
 
 is_other : (m n : ℕ) → m ≢ n → (m == n) ≡ false

@@ -1,6 +1,6 @@
 -- The numbers that ranges and bounds together leave to symbols and expressions.
 use Rattle.std.specs.Prelude.{◌≡◌, ℕ, ℤ, pos, ◌+ℤ◌, ◌-ℤ◌, List, [], ◌∷◌, Option}
-use Rattle.std.specs.Prelude.{EachIndex, slice_index_or, if◌then◌else◌}
+use Rattle.std.specs.Prelude.{if◌then◌else◌}
 use Rattle.std.specs.Int.{int_min, int_max}
 use Rattle.domain_api.specs.declared.expr.Expr.{Expr}
 use Rattle.interval_domain.specs.Interval.{inner_hole, is_hole}
@@ -9,13 +9,6 @@ use Rattle.pentagon_domain.specs.Rows.{rows_from, rows_to}
 use Rattle.number_spans.specs.Spans.{shifted}
 use Rattle.number_spans.specs.declared.span.Span.{Span}
 use Rattle.number_facts.specs.Facts.{Facts, has, range_at}
-
--- The ends that are stored of a symbol.
-unfoldable pub stored_low : Facts → ℕ → ℤ
-stored_low facts s = (range_at facts s).lo
-
-unfoldable pub stored_high : Facts → ℕ → ℤ
-stored_high facts s = (range_at facts s).hi
 
 -- A bound s + k <= t keeps s at or below the greatest stored number of t, less k.
 abbrev pub lowered_by : Facts → ℤ → BoundRow → ℤ
@@ -29,18 +22,6 @@ raised_by facts lo row = if has facts row.s then int_max lo ((range_at facts row
 abbrev pub cut_by_all : (ℤ → BoundRow → ℤ) → List BoundRow → ℤ → ℤ
 cut_by_all by [] n = n
 cut_by_all by (row ∷ rows) n = cut_by_all by rows (by n row)
-
--- The lower ends of symbols, that of symbol s at place s, raised by all bounds.
-abbrev pub AreLows : Facts → List ℤ → Type 0
-AreLows facts lows =
-    EachIndex lows (λ s. slice_index_or lows s (pos 0) ≡
-    cut_by_all (raised_by facts) (rows_to facts.bounds s) (range_at facts s).lo)
-
--- And the upper ends, lowered by all.
-abbrev pub AreHighs : Facts → List ℤ → Type 0
-AreHighs facts highs =
-    EachIndex highs (λ s. slice_index_or highs s (pos 0) ≡
-    cut_by_all (lowered_by facts) (rows_from facts.bounds s) (range_at facts s).hi)
 
 -- A hole that meets an end moves that end, and one outside the ends is none.
 unfoldable pub met : ℤ → ℤ → Option ℤ → Span

@@ -2,6 +2,7 @@ pub mod Sizes
 pub mod Facts
 pub mod Differences
 pub mod Ends
+pub mod SpanLists
 pub mod Gaps
 pub mod Fresh
 pub mod Comparisons

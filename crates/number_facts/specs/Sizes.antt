@@ -1,6 +1,7 @@
 -- How large ends are before a constant is added.
 use Rattle.std.specs.Prelude.{ℤ, pos, negsuc, ◌≤ℤ◌}
 use Rattle.number_spans.specs.declared.span.Span.{Span}
+use Rattle.number_facts.specs.declared.ends.CutEnds.{CutEnds}
 
 -- At most 2^64, as sums and differences of two numbers of 64 bits are.
 pub record IsSum (n : ℤ) : Type 0 where
@@ -11,6 +12,15 @@ pub record IsSum (n : ℤ) : Type 0 where
 pub record IsCut (n : ℤ) : Type 0 where
   pub least : negsuc 9223372039002259455 ≤ℤ n
   pub greatest : n ≤ℤ pos 9223372039002259456
+
+-- So are both ends.
+pub record AreSums (ends : CutEnds) : Type 0 where
+  pub low : IsSum ends.lo
+  pub high : IsSum ends.hi
+
+pub record AreCut (ends : CutEnds) : Type 0 where
+  pub low : IsCut ends.lo
+  pub high : IsCut ends.hi
 
 -- At most one more, behind a hole.
 pub record IsNear (n : ℤ) : Type 0 where

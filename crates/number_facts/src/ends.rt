@@ -1,6 +1,6 @@
 //! The numbers that ranges and bounds together leave to symbols and expressions.
 
-ghost use Rattle.std.specs.Prelude.{◌≡◌, ◌+ℤ◌, ◌-ℤ◌, pos, FitsSigned, if◌then◌else◌};
+ghost use Rattle.std.specs.Prelude.{◌≡◌, ◌+ℤ◌, ◌-ℤ◌, pos, FitsSigned, [], ◌∷◌, if◌then◌else◌};
 ghost use Rattle.std.specs.Int.{w32, int_min, int_max};
 ghost use Rattle.interval_domain.specs.Interval.{inner_hole, is_hole};
 ghost use Rattle.pentagon_domain.specs.Rows.{AreBounds, rows_from, rows_to};
@@ -8,12 +8,24 @@ ghost use Rattle.number_spans.specs.Sizes.{IsBounded, IsLong, IsLongHole, IsSmal
 ghost use Rattle.number_facts.specs.Facts.{AreNarrow, IsNamed, IsThere, range_at};
 ghost use Rattle.number_facts.specs.Holds.{AreEndsOf};
 ghost use Rattle.number_facts.specs.Ends as rule;
-ghost use Rattle.number_facts.specs.Sizes.{AreNear, IsCut, IsNear, IsSum};
+ghost use Rattle.number_facts.specs.Sizes.{AreCut, AreNear, AreSums, IsCut, IsNear, IsSum};
 
 use crate::numbers::Numbers;
 use domain_api::Expr;
 use number_spans::Span;
 use pentagon_domain::BoundRow;
+
+/// Where there are no more bounds, all are looked at for those of a symbol: a search costs as much.
+const FEW: usize = 48;
+
+/// The ends of a symbol, as some bounds have cut them.
+#[derive(Clone, Copy)]
+pub(crate) struct CutEnds {
+    /// The least number that is left.
+    pub lo: i128,
+    /// The greatest.
+    pub hi: i128,
+}
 
 /// The difference of two numbers of 64 bits.
 fn difference_of(a: i64, b: i64) -> i128
@@ -34,7 +46,7 @@ fn sum_of(a: i64, b: i64) -> i128
 }
 
 /// A number of 64 bits.
-pub(crate) fn wide(n: i64) -> i128
+fn wide(n: i64) -> i128
     ensures value { result ≡ n }
     ensures bound { IsSum result }
     ensures small { FitsSigned w32 n → IsCut result }
@@ -175,7 +187,6 @@ impl Numbers {
             rule.cut_by_all (rule.raised_by self.now) (rows_to self.now.bounds t) (range_at self.now t).lo }
         ensures bound { IsSum result }
         ensures small { AreNarrow self.now → IsCut result }
-        ensures form { AreBounds self.now.bounds }
     {
         let mut lo = wide(self.range_at(t).lo());
         let rows = self.bounds.rows_to(t);
@@ -185,9 +196,102 @@ impl Numbers {
         lo
     }
 
+    /// The lower end of a symbol, raised by a bound where that goes to the symbol.
+    fn raised_at(&self, t: u32, lo: i128, row: &BoundRow) -> i128
+        requires { IsSum lo }
+        ensures value { result ≡ rule.cut_by_all (rule.raised_by self.now) (rows_to (row.now ∷ []) t) lo }
+        ensures bound { IsSum result }
+        ensures small { AreNarrow self.now → IsCut lo → IsCut result }
+    {
+        if row.t == t {
+            self.raised_by(lo, row)
+        } else {
+            lo
+        }
+    }
+
+    /// The upper end of a symbol, cut by a bound where that goes from the symbol.
+    fn lowered_at(&self, s: u32, hi: i128, row: &BoundRow) -> i128
+        requires { IsSum hi }
+        ensures value { result ≡ rule.cut_by_all (rule.lowered_by self.now) (rows_from (row.now ∷ []) s) hi }
+        ensures bound { IsSum result }
+        ensures small { AreNarrow self.now → IsCut hi → IsCut result }
+    {
+        if row.s == s {
+            self.lowered_by(hi, row)
+        } else {
+            hi
+        }
+    }
+
+    /// The ends of a symbol, cut by a bound where that is one of the symbol.
+    fn cut_at(&self, s: u32, ends: CutEnds, row: &BoundRow) -> CutEnds
+        requires { AreSums ends }
+        ensures low { result.lo ≡ rule.cut_by_all (rule.raised_by self.now) (rows_to (row.now ∷ []) s) ends.lo }
+        ensures high { result.hi ≡ rule.cut_by_all (rule.lowered_by self.now) (rows_from (row.now ∷ []) s) ends.hi }
+        ensures sums { AreSums result }
+        ensures small { AreNarrow self.now → AreCut ends → AreCut result }
+    {
+        CutEnds {
+            lo: self.raised_at(s, ends.lo, row),
+            hi: self.lowered_at(s, ends.hi, row),
+        }
+    }
+
+    /// The ends that are stored of a symbol.
+    #[tactic(auto, using(crate::proofs::Small::narrow_ends))]
+    pub(crate) fn stored_ends(&self, s: u32) -> CutEnds
+        ensures low { result.lo ≡ (range_at self.now s).lo }
+        ensures high { result.hi ≡ (range_at self.now s).hi }
+        ensures sums { AreSums result }
+        ensures small { AreNarrow self.now → AreCut result }
+    {
+        let range = self.range_at(s);
+        CutEnds {
+            lo: wide(range.lo()),
+            hi: wide(range.hi()),
+        }
+    }
+
+    /// The ends of a symbol, cut by those of some bounds that are of the symbol.
+    #[tactic(auto, using(crate::proofs::Cutting::chosen))]
+    fn cut_among(&self, s: u32, rows: &[BoundRow]) -> CutEnds
+        ensures low { result.lo ≡
+            rule.cut_by_all (rule.raised_by self.now) (rows_to rows.now s) (range_at self.now s).lo }
+        ensures high { result.hi ≡
+            rule.cut_by_all (rule.lowered_by self.now) (rows_from rows.now s) (range_at self.now s).hi }
+        ensures sums { AreSums result }
+        ensures small { AreNarrow self.now → AreCut result }
+    {
+        let mut ends = self.stored_ends(s);
+        for row in rows {
+            ends = self.cut_at(s, ends, row);
+        }
+        ends
+    }
+
+    /// The ends of a symbol, cut by all its bounds. Among many these are searched for.
+    fn cut_ends(&self, s: u32) -> CutEnds
+        ensures low { result.lo ≡
+            rule.cut_by_all (rule.raised_by self.now) (rows_to self.now.bounds s) (range_at self.now s).lo }
+        ensures high { result.hi ≡
+            rule.cut_by_all (rule.lowered_by self.now) (rows_from self.now.bounds s) (range_at self.now s).hi }
+        ensures sums { AreSums result }
+        ensures small { AreNarrow self.now → AreCut result }
+    {
+        let rows = self.bounds.rows();
+        if rows.len() <= FEW {
+            return self.cut_among(s, rows);
+        }
+        CutEnds {
+            lo: self.lowest(s),
+            hi: self.highest(s),
+        }
+    }
+
     /// The numbers that are left to a symbol. They are no larger than ends of int32 that bounds cut, where ranges are
-    /// of int32.
-    #[tactic(auto, unfolding(crate::specs::Ends::span_at))]
+    /// of int32. Symbol 0 has no bounds.
+    #[tactic(auto, using(crate::proofs::Small::no_bounds), unfolding(crate::specs::Ends::span_at))]
     pub(crate) fn left_to(&self, s: u32) -> Span
         ensures value { result ≡ rule.span_at self.now s }
         ensures ends { IsLong result }
@@ -195,7 +299,12 @@ impl Numbers {
         ensures small { AreNarrow self.now → AreNear result }
         ensures form { AreBounds self.now.bounds }
     {
-        met(self.lowest(s), self.highest(s), self.range_at(s).hole())
+        let rows = self.bounds.rows();
+        if s == 0 {
+            return met(0, 0, None);
+        }
+        let ends = self.cut_ends(s);
+        met(ends.lo, ends.hi, self.range_at(s).hole())
     }
 
     /// The numbers that an expression may have.

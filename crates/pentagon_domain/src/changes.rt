@@ -9,6 +9,20 @@ use crate::bound_row::BoundRow;
 use crate::search::{is_found, place_of, place_to};
 use domain_api::NoMemory;
 
+/// For so many bounds room is taken at once.
+const FIRST_ROOM: usize = 12;
+
+/// Makes room for the first rows, where there is none yet.
+fn make_room(rows: &mut Vec<BoundRow>) -> Result<(), NoMemory>
+    ensures { rows.new.items ≡ rows.old.items }
+{
+    if !rows.is_empty() {
+        return Ok(());
+    }
+    rows.reserve(FIRST_ROOM)?;
+    Ok(())
+}
+
 /// Puts a row at a place. Where one of the same symbols stands there, the greater constant is kept.
 #[tactic(auto, using(crate::proofs::Puts::puts, crate::proofs::Searches::inside_found))]
 fn put_at(rows: &mut Vec<BoundRow>, place: usize, row: BoundRow) -> Result<(), NoMemory>
@@ -39,6 +53,7 @@ pub(crate) fn put(rows: &mut Vec<BoundRow>, row: BoundRow) -> Result<(), NoMemor
     if !row.is_pair() {
         return Ok(());
     }
+    make_room(rows)?;
     let place = place_of(rows, row.s, row.t);
     put_at(rows, place, row)
 }

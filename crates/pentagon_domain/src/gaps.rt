@@ -15,6 +15,9 @@ use crate::idle::{is_idle, lowest};
 use crate::search::{Guess, rows_near};
 use domain_api::Order;
 
+/// So many bounds are many: it is worth a pass over all gaps to know which bounds behind them tell nothing.
+const MANY: usize = 12;
+
 /// An exact number as a gap of 64 bits.
 #[tactic(auto, unfolding(crate::specs::Gaps::cut))]
 fn cut(exact: i128) -> Option<i64>
@@ -208,12 +211,29 @@ impl Bounds {
         }
     }
 
+    /// A number that none of the gaps from s is below, but for those to s and to symbols to which no bound goes. It is
+    /// sought where many bounds go from s: behind few, to look at all costs less.
+    fn lowest_behind(
+        &self,
+        s: u32,
+        firsts: &[BoundRow],
+        gaps: &[Option<i64>],
+    ) -> Option<i64>
+        ensures { EachIndex gaps.now (λ t. t ≢ s → is_reached self.now t ≡ true →
+            IsLow result (slice_index_or gaps.now t None)) }
+    {
+        if firsts.len() < MANY {
+            return None;
+        }
+        lowest(self, gaps, s)
+    }
+
     /// Raises the gap to each symbol but s by what bounds say behind those from s.
     fn raise_behind(&self, s: u32, firsts: &[BoundRow], gaps: &mut [Option<i64>])
         ensures { EachIndex gaps.new (λ t. t ≢ s → slice_index_or gaps.new t None ≡
             greater_gap (slice_index_or gaps.old t None) (option_and_then cut (greatest_sum self.now firsts.now t))) }
     {
-        let low = lowest(self, gaps, s);
+        let low = self.lowest_behind(s, firsts, gaps);
         let mut guess = Guess { end: 0, count: 0 };
         for first in firsts {
             self.raise_beyond(first, low, &mut guess, gaps);

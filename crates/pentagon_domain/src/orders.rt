@@ -15,6 +15,9 @@ use domain_api::NoMemory;
 use std::alloc::Global;
 use std::marker::Model;
 
+/// Of so many rows it is worth the copy to give back the room that they do not need.
+const MANY: usize = 24;
+
 /// The rows of bounds in both orders. Contracts see them as the rows by the first symbol.
 #[derive(Drop)]
 pub(crate) struct Orders {
@@ -51,6 +54,17 @@ fn roomy(alloc: Global, rows: &[BoundRow], more: usize) -> Result<Vec<BoundRow>,
     Ok(copy)
 }
 
+/// Rows that give back the room they do not need, where they are many.
+fn shrunk(rows: Vec<BoundRow>) -> Vec<BoundRow>
+    ensures { result.items ≡ rows.items }
+{
+    let mut rows = rows;
+    if MANY <= rows.len() {
+        rows.shrink_to_fit();
+    }
+    rows
+}
+
 impl Orders {
     ghost use Rattle.pentagon_domain.specs.Rows.{AreBounds, rows_from, rows_to, with_bounds};
     ghost use Rattle.pentagon_domain.specs.Most.{AreUpTo};
@@ -66,13 +80,12 @@ impl Orders {
         })
     }
 
-    /// Rows that are in order, with no room for more. Costs two copies, and a sort of one.
+    /// Rows that are in order, with little room for more. Costs two copies, and a sort of one.
     pub(crate) fn of(alloc: Global, rows: Vec<BoundRow>) -> Result<Orders, NoMemory>
         requires { AreBounds rows.items }
         ensures { IfOk result (λ orders. orders ≡ rows.items) }
     {
-        let mut rows = rows;
-        rows.shrink_to_fit();
+        let rows = shrunk(rows);
         let targets = by_target(alloc, &rows)?;
         let most = most_of(&rows, i64::MIN);
         Ok(Orders {
