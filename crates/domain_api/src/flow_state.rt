@@ -42,6 +42,12 @@ pub trait FlowState: Lattice {
     /// The state after an edge, from the one before it.
     ghost along: { Self → Self.Code → ℕ → Self };
 
+    /// The state before the last instruction of a block, from the one at its start.
+    ghost through: { Self → Self.Code → ℕ → Self };
+
+    /// The state after an edge, from the one before the last instruction of its source.
+    ghost leaving: { Self → Self.Code → ℕ → Self };
+
     /// The state where the code begins.
     ghost entry: { Self.Code → Self };
 
@@ -66,6 +72,29 @@ pub trait FlowState: Lattice {
         requires edge { edge < edge_count code.now }
         requires fits { fits code.now (source code.now edge) self.now }
         ensures value { IfOk result (λ behind. behind ≡ along self.now code.now edge) }
+        ensures ticked { Self.Gauge.count meter.new ≡ after_tick (Self.Gauge.count meter.old) };
+
+    /// The state before the last instruction of a block, from the one at its start.
+    fn before_last(&self, alloc: Global, code: &Self::Code, block: u32) -> Result<Self, NoMemory>
+        requires lawful { lawful code.now }
+        requires block { block < block_count code.now }
+        requires fits { fits code.now block self.now }
+        ensures { IfOk result (λ before. before ≡ through self.now code.now block) };
+
+    /// The state after an edge, from the one before the last instruction of its source. It ticks the meter once,
+    /// whatever it answers.
+    fn leave(
+        self,
+        alloc: Global,
+        code: &Self::Code,
+        edge: u32,
+        meter: &mut Self::Gauge,
+    ) -> Result<Self, NoMemory>
+        requires lawful { lawful code.now }
+        requires edge { edge < edge_count code.now }
+        // It comes of a state that fits the source.
+        requires came { (first : Self) × fits code.now (source code.now edge) first × (self ≡ through first code.now (source code.now edge)) }
+        ensures value { IfOk result (λ behind. behind ≡ leaving self code.now edge) }
         ensures ticked { Self.Gauge.count meter.new ≡ after_tick (Self.Gauge.count meter.old) };
 
     /// The same state again.
@@ -110,6 +139,10 @@ pub trait FlowState: Lattice {
 
     ghost widen_fits: { (code : Self.Code) (block : ℕ) (a b : Self) → lawful code → fits code block a → fits code block b →
         fits code block (Self.widen a b) };
+
+    // A block and then the edge that leaves it come to the same as the edge.
+    ghost along_is: { (code : Self.Code) (edge : ℕ) (a : Self) → lawful code → edge < edge_count code →
+        along a code edge ≡ leaving (through a code (source code edge)) code edge };
 
     // What holds before an edge's steps holds, carried along the edge, after them.
     ghost along_fits: { (code : Self.Code) (edge : ℕ) (a : Self) → lawful code → edge < edge_count code →

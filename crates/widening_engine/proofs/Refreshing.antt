@@ -1,9 +1,11 @@
 -- Edges that are computed again, one after another.
-use Rattle.std.proofs.Common.{◌≡◌, ◌≢◌, ℕ, ◌+◌, ◌<◌, ◌≤◌, Bool, true, false, not, ◌&&◌, List, cond, length, get_or, refl, sym, ap, subst, ◌∙◌, arith, set, inl, inr, get_or-set_same, get_or-set_other}
+use Rattle.std.proofs.Common.{◌≡◌, ◌≢◌, ℕ, ◌+◌, ◌<◌, ◌≤◌, Bool, true, false, not, ◌&&◌, List, Option, Some, None, IfSome, cond, length, get_or, refl, sym, ap, subst, ◌∙◌, arith, set, inl, inr, get_or-set_same, get_or-set_other}
 use Rattle.std.proofs.lemmas.Bool.{cases_eq}
 use Rattle.std.proofs.lemmas.List.{length-set}
-use Rattle.widening_engine.specs.Kept.{IsMarked, IsRefreshed, IsStillKnown, is_computed, states_of}
-use Rattle.widening_engine.specs.Rounds.{Flow, behind}
+use Rattle.flow_graph.specs.declared.graph.Edge.{Edge}
+use Rattle.widening_engine.specs.Flows.{AreEdges, edge_at}
+use Rattle.widening_engine.specs.Kept.{IsCopiedForNext, IsMarked, IsRefreshed, IsStillKnown, IsWalked, is_computed, states_of}
+use Rattle.widening_engine.specs.Rounds.{Flow, behind, state_at}
 use Rattle.widening_engine.specs.declared.kept.Kept.{Kept}
 
 -- The state behind the edge, computed again or as it was.
@@ -111,3 +113,19 @@ module _ {S : Type 0} (flow : Flow S) (every : Bool) (changed : List Bool) (old 
     behind_same = all.behind_same;
     same = all.same;
   }
+
+-- ---- the state before the last instruction of an edge's source
+
+module _ {S : Type 0} (flow : Flow S) (through : S → ℕ → S) (states : List S) (edges : List Edge) (are : AreEdges flow edges) (place : ℕ) (below : place < flow.edges) (before : S)
+    (walked : before ≡ through (state_at flow states (edge_at edges place).from) (edge_at edges place).from) where
+  -- It is that of the source.
+  pub walked_there : before ≡ through (state_at flow states (flow.source place)) (flow.source place)
+  walked_there = subst (λ (n : ℕ). before ≡ through (state_at flow states n) n) (are.from place below) walked
+
+  -- It serves the next edge too, where that leaves the same block.
+  pub walked_next : (next : Option S) → IfSome next (IsCopiedForNext edges place before) → IsWalked flow through states (place + 1) next
+  walked_next None copied = tt
+  walked_next (Some again) copied =
+      let inside : place + 1 < flow.edges = omega (arith, are.count, copied.there) in
+      let same : flow.source (place + 1) ≡ flow.source place = sym (are.from (place + 1) inside) ∙ copied.from ∙ are.from place below in
+      copied.same ∙ subst (λ (n : ℕ). before ≡ through (state_at flow states n) n) (sym same) walked_there

@@ -1,6 +1,7 @@
 -- What is kept of blocks and edges from one round to the next.
-use Rattle.std.specs.Prelude.{◌≡◌, ◌↔◌, ℕ, ◌<◌, Bool, true, false, ◌&&◌, ◌||◌, if◌then◌else◌, List, length, map, get_or, Option, Some, None, unwrap_or}
-use Rattle.widening_engine.specs.Flows.{FitBlocks}
+use Rattle.std.specs.Prelude.{◌≡◌, ◌↔◌, ℕ, ◌<◌, Bool, true, false, ◌&&◌, ◌||◌, if◌then◌else◌, List, length, map, get_or, Option, Some, None, IfSome, unwrap_or, ◌+◌}
+use Rattle.flow_graph.specs.declared.graph.Edge.{Edge}
+use Rattle.widening_engine.specs.Flows.{FitBlocks, edge_at}
 use Rattle.widening_engine.specs.Merging.{merged_by}
 use Rattle.widening_engine.specs.Rounds.{Flow, behind, incoming, is_begun, is_carried, merge, places, state_at}
 use Rattle.widening_engine.specs.declared.kept.Kept.{Kept}
@@ -130,6 +131,16 @@ pub record IsRefreshed {S : Type 0} (flow : Flow S) (every : Bool) (changed : Li
   pub target_same : (edge : ℕ) → edge < flow.edges → get_or new.carried.items edge false ≡ true → get_or changed (flow.target edge) false ≡ false
   pub behind_same : (edge : ℕ) → edge < flow.edges → get_or new.carried.items edge false ≡ true → get_or new.behind.items edge flow.nothing ≡ get_or old.behind.items edge flow.nothing
   pub same : (edge : ℕ) → edge < flow.edges → get_or new.stale.items (flow.target edge) false ≡ false → get_or new.behind.items edge flow.nothing ≡ get_or old.behind.items edge flow.nothing
+
+-- The state that was kept, if one was, is that before the last instruction of the edge's source.
+abbrev pub IsWalked : {S : Type 0} → Flow S → (S → ℕ → S) → List S → ℕ → Option S → Type 0
+IsWalked flow through states edge walked = IfSome walked (λ before. before ≡ through (state_at flow states (flow.source edge)) (flow.source edge))
+
+-- The state is the same again, and there is a next edge, which leaves the same block.
+pub record IsCopiedForNext {S : Type 0} (edges : List Edge) (place : ℕ) (before again : S) : Type 0 where
+  pub same : again ≡ before
+  pub there : place + 1 < length edges
+  pub from : (edge_at edges (place + 1)).from ≡ (edge_at edges place).from
 
 -- The mark of the edge's target is set, or what is told of the edge is so; no other mark is taken back.
 pub record IsMarked (target : ℕ) (old new : List Bool) (same : Type 0) : Type 0 where

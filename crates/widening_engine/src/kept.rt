@@ -2,9 +2,9 @@
 
 ghost use Rattle.std.specs.Prelude.{◌≡◌, ◌↔◌, ◌<◌, ◌≤◌, ◌+◌, ◌^◌, ◌==◌, ◌&&◌, ◌||◌, not, ℕ, Bool, true, false, map, length, get_or, slice_set, slice_index_or, if◌then◌else◌, None, Some, IfOk, OnOk, IfSome, unwrap_or, count_by, replicate};
 ghost use Rattle.widening_engine.specs.Flows.{AreEdges, AreNumbered, FitBlocks, flow_of};
-ghost use Rattle.widening_engine.specs.Kept.{AreForgotten, AreStepped, IsKept, IsMarked, IsRefreshed, IsStillKnown, fresh_join, is_computed, joined_anew, no_block, states_of};
+ghost use Rattle.widening_engine.specs.Kept.{AreForgotten, AreStepped, IsCopiedForNext, IsKept, IsMarked, IsRefreshed, IsStillKnown, IsWalked, fresh_join, is_computed, joined_anew, no_block, states_of};
 ghost use Rattle.widening_engine.specs.Merging.{joined};
-ghost use Rattle.widening_engine.specs.Rounds.{all_unknown, behind, is_begun, is_carried, is_head, is_inductive, never_reached, places};
+ghost use Rattle.widening_engine.specs.Rounds.{all_unknown, behind, is_begun, is_carried, is_head, is_inductive, never_reached, places, state_at};
 ghost use Rattle.widening_engine.specs.Work.{HasCountedAtMostBy, HasCountedBy, after_round, after_ticks, changes};
 
 use crate::heads::no_marks;
@@ -94,6 +94,23 @@ fn is_computed(every: bool, changed: bool) -> bool
     ensures { result ≡ (every || changed) }
 {
     every || changed
+}
+
+/// A copy of the state before the last instruction of an edge's source, where the next edge leaves that block too.
+fn copy_for_next<S: FlowState + Drop>(
+    alloc: Global,
+    edges: &[Edge],
+    place: usize,
+    before: &S,
+) -> Result<Option<S>, NoMemory>
+    requires { place < length edges.now }
+    ensures { IfOk result (λ next. IfSome next (IsCopiedForNext edges.now place before.now)) }
+{
+    let next = place + 1;
+    if next == edges.len() || edges[next].from != edges[place].from {
+        return Ok(None);
+    }
+    Ok(Some(before.copy(alloc)?))
 }
 
 /// A list of so many times None: nothing flows into a block yet.
@@ -281,25 +298,53 @@ impl<S: FlowState + Drop> Kept<S> {
         }
     }
 
-    /// Computes the state behind the edge again, if that of its source has changed.
+    /// The state before the last instruction of a block: the one that was kept, or else walked to from the block's state.
+    fn before_last(
+        &self,
+        alloc: Global,
+        code: &S::Code,
+        block: u32,
+        walked: Option<S>,
+    ) -> Result<S, NoMemory>
+        requires lawful { S.lawful code.now }
+        requires block { block < S.block_count code.now }
+        requires fit { FitBlocks (flow_of S.FlowState.own S.Lattice code.now) (S.fits code.now) (states_of self.now.blocks.items) }
+        requires walked { let flow = flow_of S.FlowState.own S.Lattice code.now in
+            IfSome walked (λ before. before ≡ S.through (state_at flow (states_of self.now.blocks.items) block) code.now block) }
+        ensures { let flow = flow_of S.FlowState.own S.Lattice code.now in
+            IfOk result (λ before. before ≡ S.through (state_at flow (states_of self.now.blocks.items) block) code.now block) }
+    {
+        match walked {
+            Some(before) => Ok(before),
+            None => {
+                let source = &self.blocks[block as usize];
+                source.state.before_last(alloc, code, block)
+            }
+        }
+    }
+
+    /// Computes the state behind the edge again, if that of its source has changed: from the state before the last
+    /// instruction of its source, where that was kept. Answers that state where the next edge leaves the same block.
     fn refresh_edge(
         &mut self,
         alloc: Global,
         code: &S::Code,
-        place: u32,
-        edge: Edge,
+        edges: &[Edge],
+        place: usize,
         changed: bool,
         target_changed: bool,
+        walked: Option<S>,
         meter: &mut S::Gauge,
-    ) -> Result<(), NoMemory>
+    ) -> Result<Option<S>, NoMemory>
         requires lawful { S.lawful code.now }
+        requires edges { AreEdges (flow_of S.FlowState.own S.Lattice code.now) edges.now }
+        requires few { S.edge_count code.now < 2 ^ 32 }
         requires fit { FitBlocks (flow_of S.FlowState.own S.Lattice code.now) (S.fits code.now) (states_of self.old.blocks.items) }
         requires place { place < S.edge_count code.now }
-        requires from { edge.from ≡ S.source code.now place }
-        requires to { edge.to ≡ S.target code.now place }
         requires behind { length self.old.behind.items ≡ S.edge_count code.now }
         requires carried { length self.old.carried.items ≡ S.edge_count code.now }
         requires stale { length self.old.stale.items ≡ S.block_count code.now }
+        requires walked { IsWalked (flow_of S.FlowState.own S.Lattice code.now) (λ a block. S.through a code.now block) (states_of self.old.blocks.items) place walked }
         ensures entry { OnOk result (self.new.entry ≡ self.old.entry) }
         ensures blocks { OnOk result (self.new.blocks.items ≡ self.old.blocks.items) }
         ensures behind { let flow = flow_of S.FlowState.own S.Lattice code.now in OnOk result (self.new.behind.items ≡ slice_set self.old.behind.items place
@@ -307,18 +352,21 @@ impl<S: FlowState + Drop> Kept<S> {
         ensures begun { OnOk result (self.new.begun ≡ self.old.begun) }
         ensures carried { OnOk result (IsStillKnown place target_changed self.old.carried.items self.new.carried.items (self.new.behind.items ≡ self.old.behind.items)) }
         ensures stale { let flow = flow_of S.FlowState.own S.Lattice code.now in OnOk result (IsMarked (flow.target place) self.old.stale.items self.new.stale.items (self.new.behind.items ≡ self.old.behind.items)) }
+        ensures walked { IfOk result (IsWalked (flow_of S.FlowState.own S.Lattice code.now) (λ a block. S.through a code.now block) (states_of self.old.blocks.items) (place + 1)) }
         ensures ticked { OnOk result (S.Gauge.count meter.new ≡ after_ticks (if changed then 1 else 0) (S.Gauge.count meter.old)) }
         ensures most { S.Gauge.count meter.new ≤ S.Gauge.count meter.old + (if changed then 1 else 0) }
     {
-        let known = self.carried[place as usize];
-        self.carried[place as usize] = still_known(known, target_changed);
+        let known = self.carried[place];
+        self.carried[place] = still_known(known, target_changed);
         if !changed {
-            return Ok(());
+            return Ok(None);
         }
-        let source = &self.blocks[edge.from as usize];
-        let behind = source.state.along_edge(alloc, code, place, meter)?;
-        self.take_behind(place as usize, edge.to as usize, behind);
-        Ok(())
+        let edge = edges[place];
+        let before = self.before_last(alloc, code, edge.from, walked)?;
+        let next = copy_for_next(alloc, edges, place, &before)?;
+        let behind = before.leave(alloc, code, place as u32, meter)?;
+        self.take_behind(place, edge.to as usize, behind);
+        Ok(next)
     }
 
     /// Computes the states behind the edges again: every one, or those whose sources have changed.
@@ -346,11 +394,12 @@ impl<S: FlowState + Drop> Kept<S> {
             S.Gauge.count meter.new ≤ S.Gauge.count meter.old + count_by (is_computed flow every changed.now) (places flow.edges) }
     {
         self.begun = still_known(self.begun, changed[0]);
+        let mut walked = None;
         for place in 0..edges.len() {
             let edge = edges[place];
             let again = is_computed(every, changed[edge.from as usize]);
             let other = changed[edge.to as usize];
-            self.refresh_edge(alloc, code, place as u32, edge, again, other, meter)?;
+            walked = self.refresh_edge(alloc, code, edges, place, again, other, walked, meter)?;
         }
         Ok(())
     }

@@ -1,14 +1,15 @@
-use Rattle.std.proofs.Common.{◌≡◌, ◌<◌, ◌≤◌, ◌+◌, ◌∙◌, ℕ, Bool, ◌||◌, ap, sym, subst, arith, cond, get_or, false, count_by}
+use Rattle.std.proofs.Common.{◌≡◌, ◌<◌, ◌≤◌, ◌+◌, ◌∙◌, ℕ, Bool, ◌||◌, List, ap, sym, subst, arith, cond, get_or, false, count_by}
 use Rattle.widening_engine.specs.Flows.{flow_of}
-use Rattle.widening_engine.specs.Kept.{is_computed}
+use Rattle.widening_engine.specs.Kept.{IsWalked, is_computed, states_of}
 use Rattle.widening_engine.specs.Rounds.{Flow, places}
 use Rattle.widening_engine.specs.Work.{after_ticks}
+use Rattle.widening_engine.specs.declared.kept_block.KeptBlock.{KeptBlock}
 use Rattle.widening_engine.proofs.Counting.{count_more, count_up_to, same_tick, ticks_add, ticks_most}
 use Rattle.widening_engine.proofs.Refreshing.{AreRefreshing, refreshing_all, refreshing_more}
 use Rattle.widening_engine.proofs.kept.Kept.refresh.Goals as goal
 
-pub returns-in_err-refresh_edge-clause-most : goal.returns-in_err-refresh_edge-clause-most
-returns-in_err-refresh_edge-clause-most g c =
+pub returns-in_err-walked-clause-most : goal.returns-in_err-walked-clause-most
+returns-in_err-walked-clause-most g c =
     let m = g.met.S.FlowState in
     let code = c.args.code.now in
     let flow : Flow _ = flow_of g.S.FlowState g.S.Lattice code in
@@ -31,11 +32,12 @@ loop-place-preserved g c =
     let anew : ℕ → Bool = is_computed flow c.args.every c.args.changed.now in
     let again = c.is_computed-again.ensures ∙ ap (λ b. c.args.every || get_or c.args.changed.now b false) (c.requires.edges.from n inside) in
     let here = same_tick _ (anew n) again in
-    let e = c.in_ok-refresh_edge.ensures in
+    let e = c.in_ok-walked.ensures in
     record {
       refreshing = refreshing_more flow c.args.every c.args.changed.now c.args.self.now n _ _ c.loop-place.self _ again
           (ap (λ b. get_or c.args.changed.now b false) (c.requires.edges.to n inside)) (omega (arith, inside, c.requires.behind))
           c.loop-place.invariant.refreshing e.entry e.blocks e.behind e.begun e.carried e.stale;
+      walked = subst (λ (blocks : List (KeptBlock _)). IsWalked flow (λ a block. g.S.FlowState.through a code block) (states_of blocks) (n + 1) c.in_ok-walked.walked) (sym e.blocks) e.walked;
       ticked = e.ticked ∙ (λ i. after_ticks (here i) (c.loop-place.invariant.ticked i))
           ∙ sym (ticks_add (count_by anew (places n)) (cond (anew n) 1 0) (g.S.Gauge.Meter.count c.args.meter.now))
           ∙ ap (λ k. after_ticks k (g.S.Gauge.Meter.count c.args.meter.now)) (sym (count_more anew n));
