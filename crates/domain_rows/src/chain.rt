@@ -85,6 +85,10 @@ impl FlowState for Reached {
 
     ghost along = { λ a code edge. a };
 
+    ghost through = { λ a code block. a };
+
+    ghost leaving = { λ a code edge. a };
+
     ghost entry = { λ code. record { is = true } };
 
     ghost unknown = { λ code block. record { is = true } };
@@ -102,6 +106,21 @@ impl FlowState for Reached {
     ) -> Result<Reached, NoMemory> {
         meter.tick();
         Ok(*self)
+    }
+
+    fn before_last(&self, _alloc: Global, _code: &Chain, _block: u32) -> Result<Reached, NoMemory> {
+        Ok(*self)
+    }
+
+    fn leave(
+        self,
+        _alloc: Global,
+        _code: &Chain,
+        _edge: u32,
+        meter: &mut Ticks,
+    ) -> Result<Reached, NoMemory> {
+        meter.tick();
+        Ok(self)
     }
 
     fn copy(&self, _alloc: Global) -> Result<Reached, NoMemory> {
@@ -140,6 +159,8 @@ impl FlowState for Reached {
     ghost join_fits = { λ code block a b lawful first second. tt };
 
     ghost widen_fits = { λ code block a b lawful first second. tt };
+
+    ghost along_is = { λ code edge a lawful below. refl };
 
     ghost along_fits = { λ code edge a lawful below fits. tt };
 

@@ -34,10 +34,35 @@ fn behind_first<S: FlowState + Drop>(
     entry.along_edge(alloc, code, 0, meter)
 }
 
+/// The same, by way of the state before the last instruction of the first block.
+fn behind_first_block<S: FlowState + Drop>(
+    alloc: Global,
+    code: &S::Code,
+    meter: &mut S::Gauge,
+) -> Result<S, NoMemory>
+    requires lawful { S.lawful code.now }
+    requires edge { 0 < S.edge_count code.now }
+    requires begins { S.source code.now 0 ≡ 0 }
+    ensures value { IfOk result (λ state. state ≡ S.along (S.entry code.now) code.now 0) }
+{
+    let entry = S::entry(alloc, code)?;
+    let before = entry.before_last(alloc, code, 0)?;
+    before.leave(alloc, code, 0, meter)
+}
+
 #[test]
 fn the_second_block_is_reached(rt: HostRuntime) -> Result<(), Fail> {
     let mut ticks = Ticks { count: 0 };
     let state: Reached = behind_first(rt.alloc(), &Chain { more: 1 }, &mut ticks)?;
+    assert_eq!(rt; state.is, true);
+    assert_eq!(rt; ticks.count, 1);
+    Ok(())
+}
+
+#[test]
+fn the_second_block_is_reached_by_way_of_the_first(rt: HostRuntime) -> Result<(), Fail> {
+    let mut ticks = Ticks { count: 0 };
+    let state: Reached = behind_first_block(rt.alloc(), &Chain { more: 1 }, &mut ticks)?;
     assert_eq!(rt; state.is, true);
     assert_eq!(rt; ticks.count, 1);
     Ok(())
