@@ -85,8 +85,8 @@ impl Contents {
         ensures { IfOk result (λ both. lists_of both
             ≡ merged_one (making way) pairs.now self.now other.now key length) }
     {
-        let first = self.at(null, key.s);
-        let second = other.at(null, key.t);
+        let first = self.at_or(null, key.s);
+        let second = other.at_or(null, key.t);
         made_of(alloc, way, first, second, pairs, length)
     }
 
