@@ -78,6 +78,9 @@ pub(crate) fn all_pairs(
     ensures in_order { IfOk result (λ all. AreInOrder all.items) }
     ensures proper { IfOk result (λ all. AreProper all.items) }
 {
+    if rows.is_empty() && marks.is_empty() {
+        return Ok(Vec::new(alloc));
+    }
     let all = collected(alloc, rows, marks)?;
     in_order(alloc, all)
 }

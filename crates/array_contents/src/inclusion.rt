@@ -6,7 +6,7 @@ ghost use Rattle.array_segments.specs.Inclusion.{includes};
 ghost use Rattle.array_segments.specs.SegmentLists.{HasForm};
 ghost use Rattle.array_segments.specs.Segments.{lists_of};
 ghost use Rattle.interval_domain.specs.Joins.{within};
-ghost use Rattle.array_contents.specs.Contents.{of_null, segments_at};
+ghost use Rattle.array_contents.specs.Contents.{segments_at};
 ghost use Rattle.array_contents.specs.Merging.{included};
 
 use crate::contents::Contents;
@@ -30,42 +30,45 @@ impl Contents {
     /// Returns whether those of another reference are shown by those of the reference r.
     fn includes_one<O: Order>(
         &self,
+        alloc: Global,
         order: &O,
         names: &[Option<Expr>],
-        null: &Segs<Range>,
         r: u32,
         one: &Segs<Range>,
-    ) -> bool
+    ) -> Result<bool, NoMemory>
         requires form { AllByRecursion HasForm self.now }
-        requires null { lists_of null.now ≡ of_null }
         requires other { HasForm (lists_of one.now) }
-        ensures { result ≡ includes within (O.gap order.now) names.now (segments_at self.now r) (lists_of one.now) }
+        ensures { IfOk result (λ is. is ≡
+            includes within (O.gap order.now) names.now (segments_at self.now r) (lists_of one.now)) }
     {
-        self.at(null, r).leq_under(one, order, names)
+        match self.at(r) {
+            Some(known) => Ok(known.leq_under(one, order, names)),
+            None => Ok(null_segments(alloc)?.leq_under(one, order, names)),
+        }
     }
 
     /// Returns whether each of these is shown by those of the reference to which it is bound.
     #[tactic(auto, using(crate::proofs::MergingSteps::included_more))]
     fn includes_each<O: Order>(
         &self,
+        alloc: Global,
         order: &O,
         names: &[Option<Expr>],
-        null: &Segs<Range>,
         bound: &[u32],
         others: &[Segs<Range>],
-    ) -> bool
+    ) -> Result<bool, NoMemory>
         requires form { AllByRecursion HasForm self.now }
-        requires null { lists_of null.now ≡ of_null }
         requires other { AllByRecursion HasForm (map lists_of others.now) }
-        ensures { result ≡ included (O.gap order.now) names.now self.now bound.now (map lists_of others.now) }
+        ensures { IfOk result (λ is. is ≡
+            included (O.gap order.now) names.now self.now bound.now (map lists_of others.now)) }
     {
         for place in 0..others.len() {
             let r = bound_at(bound, place);
-            if !self.includes_one(order, names, null, r, &others[place]) {
-                return false;
+            if !self.includes_one(alloc, order, names, r, &others[place])? {
+                return Ok(false);
             }
         }
-        true
+        Ok(true)
     }
 
     /// Returns whether those of each of the other references, from reference 1 on, are shown by those of the reference
@@ -84,10 +87,6 @@ impl Contents {
         requires other { AllByRecursion HasForm other.now }
         ensures { IfOk result (λ is. is ≡ included (O.gap order.now) names.now self.now bound.now other.now) }
     {
-        if other.segments.is_empty() {
-            return Ok(true);
-        }
-        let null = null_segments(alloc)?;
-        Ok(self.includes_each(order, names, &null, bound, &other.segments))
+        self.includes_each(alloc, order, names, bound, &other.segments)
     }
 }

@@ -10,7 +10,7 @@ ghost use Rattle.array_segments.specs.SegmentLists.{HasForm, last_bound, zero_ex
 ghost use Rattle.array_segments.specs.Segments.{lists_of};
 ghost use Rattle.array_segments.specs.Unifying.{unified};
 ghost use Rattle.interval_domain.specs.Joins.{full, hull};
-ghost use Rattle.array_contents.specs.Contents.{of_null, segments_at};
+ghost use Rattle.array_contents.specs.Contents.{segments_at};
 ghost use Rattle.array_contents.specs.Ends.{EachStands};
 ghost use Rattle.array_contents.specs.Merging.{merged, merged_one};
 ghost use Rattle.array_contents.specs.Makings.{making};
@@ -72,21 +72,23 @@ impl Contents {
         alloc: Global,
         way: Making,
         other: &Contents,
-        null: &Segs<Range>,
         key: Key,
         pairs: &Pairs,
         length: Expr,
     ) -> Result<Segs<Range>, NoMemory>
         requires first { AllByRecursion HasForm self.now }
         requires second { AllByRecursion HasForm other.now }
-        requires null { lists_of null.now ≡ of_null }
         requires ends { StandsForBoth pairs.now (last_bound (segments_at self.now key.s))
             (last_bound (segments_at other.now key.t)) length }
         ensures { IfOk result (λ both. lists_of both
             ≡ merged_one (making way) pairs.now self.now other.now key length) }
     {
-        let first = self.at(null, key.s);
-        let second = other.at(null, key.t);
+        if let (Some(first), Some(second)) = (self.at(key.s), other.at(key.t)) {
+            return made_of(alloc, way, first, second, pairs, length);
+        }
+        let null = null_segments(alloc)?;
+        let first = self.at_or(&null, key.s);
+        let second = other.at_or(&null, key.t);
         made_of(alloc, way, first, second, pairs, length)
     }
 
@@ -109,14 +111,10 @@ impl Contents {
         requires ends { EachStands pairs.now self.now other.now keys.now lengths.now }
         ensures { IfOk result (λ both. both ≡ merged (making way) pairs.now self.now other.now keys.now lengths.now) }
     {
-        if keys.is_empty() {
-            return Ok(Contents::new(alloc));
-        }
-        let null = null_segments(alloc)?;
         let mut segments = Vec::with_capacity(alloc, keys.len())?;
         for place in 0..keys.len() {
             let length = length_at(lengths, place);
-            let one = self.merged_one(alloc, way, other, &null, keys[place], pairs, length)?;
+            let one = self.merged_one(alloc, way, other, keys[place], pairs, length)?;
             segments.push(one)?;
         }
         Ok(Contents { segments })

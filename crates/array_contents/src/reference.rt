@@ -1,6 +1,6 @@
 //! The segments of one reference among those of all.
 
-ghost use Rattle.std.specs.Prelude.{◌≡◌, map, IfOk};
+ghost use Rattle.std.specs.Prelude.{◌≡◌, map, IfOk, MatchOption};
 ghost use Rattle.array_segments.specs.Segments.{lists_of};
 ghost use Rattle.array_contents.specs.Contents.{of_null, segments_at};
 
@@ -17,28 +17,39 @@ pub(crate) fn null_segments(alloc: Global) -> Result<Segs<Range>, NoMemory>
     Segs::whole(alloc, Expr { sym: 0, k: 0 }, Range::constant(0), true)
 }
 
-/// The segments of a reference among those of all, where these are the ones of null.
+/// The segments of a reference among those of all. None of null.
 #[tactic(auto, using(crate::proofs::AtSteps::at_steps))]
-fn found<'a>(segments: &'a [Segs<Range>], null: &'a Segs<Range>, r: u32) -> &'a Segs<Range>
-    requires { lists_of null.now ≡ of_null }
-    ensures { lists_of result.now ≡ segments_at (map lists_of segments.now) r }
+fn found<'a>(segments: &'a [Segs<Range>], r: u32) -> Option<&'a Segs<Range>>
+    ensures { MatchOption result (of_null ≡ segments_at (map lists_of segments.now) r)
+        (λ one. lists_of one.now ≡ segments_at (map lists_of segments.now) r) }
 {
     if r == 0 {
-        return null;
+        return None;
     }
     let place = r as usize - 1;
     if place >= segments.len() {
-        return null;
+        return None;
     }
-    &segments[place]
+    Some(&segments[place])
 }
 
 impl Contents {
+    /// Those of a reference. None of null.
+    pub(crate) fn at<'a>(&'a self, r: u32) -> Option<&'a Segs<Range>>
+        ensures { MatchOption result (of_null ≡ segments_at self.now r)
+            (λ one. lists_of one.now ≡ segments_at self.now r) }
+    {
+        found(&self.segments, r)
+    }
+
     /// Those of a reference, where these are the ones of null.
-    pub(crate) fn at<'a>(&'a self, null: &'a Segs<Range>, r: u32) -> &'a Segs<Range>
+    pub(crate) fn at_or<'a>(&'a self, null: &'a Segs<Range>, r: u32) -> &'a Segs<Range>
         requires { lists_of null.now ≡ of_null }
         ensures { lists_of result.now ≡ segments_at self.now r }
     {
-        found(&self.segments, null, r)
+        match self.at(r) {
+            Some(one) => one,
+            None => null,
+        }
     }
 }

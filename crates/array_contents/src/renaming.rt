@@ -7,7 +7,7 @@ ghost use Rattle.interval_domain.specs.Joins.{hull};
 ghost use Rattle.array_segments.specs.Renaming.{renamed_lists};
 ghost use Rattle.array_segments.specs.SegmentLists.{HasForm, last_bound, zero_expr};
 ghost use Rattle.array_segments.specs.Segments.{lists_of};
-ghost use Rattle.array_contents.specs.Contents.{of_null, segments_at};
+ghost use Rattle.array_contents.specs.Contents.{segments_at};
 ghost use Rattle.array_contents.specs.Ends.{EachIsNamed};
 ghost use Rattle.array_contents.specs.Merging.{renamed_each};
 
@@ -26,16 +26,17 @@ impl Contents {
         &self,
         alloc: Global,
         names: &[Option<Expr>],
-        null: &Segs<Range>,
         r: u32,
     ) -> Result<Segs<Range>, NoMemory>
         requires form { AllByRecursion HasForm self.now }
-        requires null { lists_of null.now ≡ of_null }
         requires zero { get_or names.now 0 None ≡ Some zero_expr }
         requires ends { 0 < length (filter_map (renamed names.now) (last_bound (segments_at self.now r))) }
         ensures { IfOk result (λ new. lists_of new ≡ renamed_lists hull (renamed names.now) (segments_at self.now r)) }
     {
-        self.at(null, r).renamed(alloc, names)
+        match self.at(r) {
+            Some(one) => one.renamed(alloc, names),
+            None => null_segments(alloc)?.renamed(alloc, names),
+        }
     }
 
     /// Those of new references, each of which was the reference s of its key, in new names of symbols.
@@ -53,13 +54,9 @@ impl Contents {
         requires ends { EachIsNamed names.now self.now keys.now }
         ensures { IfOk result (λ new. new ≡ renamed_each names.now self.now keys.now) }
     {
-        if keys.is_empty() {
-            return Ok(Contents::new(alloc));
-        }
-        let null = null_segments(alloc)?;
         let mut segments = Vec::with_capacity(alloc, keys.len())?;
         for key in keys {
-            segments.push(self.renamed_one(alloc, names, &null, key.s)?)?;
+            segments.push(self.renamed_one(alloc, names, key.s)?)?;
         }
         Ok(Contents { segments })
     }

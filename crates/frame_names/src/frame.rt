@@ -80,6 +80,7 @@ impl<'a> Frame<'a> {
         ensures { IfOk result (λ exprs. exprs.items ≡
             exprs_of self.now.vars.now self.now.references.now is_first keys.now) }
     {
+        // A variable that is no address has at most one of a number and a reference: this is room for the lengths too.
         let mut exprs = Vec::with_capacity(alloc, self.vars.len())?;
         push_numbers(&mut exprs, self.vars)?;
         push_lengths(&mut exprs, self.references, is_first, keys)?;
