@@ -1,18 +1,20 @@
 -- Lists of the spans of symbols, that of symbol s at place s, while bounds cut them.
 use Rattle.std.proofs.Common.{◌≡◌, ◌≢◌, ℕ, zero, suc, ◌+◌, ◌<◌, ◌≤◌, ◌==◌, ℤ, List, [], ◌∷◌, ◌++◌, length, get_or, set, inl, inr}
-use Rattle.std.proofs.Common.{map, take, drop, sym, ap, ◌∙◌, subst, true, false, arith, refl}
+use Rattle.std.proofs.Common.{map, take, drop, sym, ap, ◌∙◌, subst, true, false, Option, None, arith, refl}
 use Rattle.std.proofs.lemmas.Bool.{cases_Bool, eqb-true, eqb-false, ne_eqb}
 use Rattle.std.proofs.lemmas.List.{ext_get_or, get_or_append_left, get_or_push, get_or-set_other, length-set, length-append, take-append-le, take_all, drop_all}
 use Rattle.std.proofs.lemmas.List.FromFn.{get_or-map-range_with_len, length-map-range_with_len}
 use Rattle.std.proofs.lemmas.Grind.{get_or-set_at}
 use Rattle.std.specs.List.{AllByRecursion, range_with_len}
+use Rattle.interval_domain.specs.Interval.{inner_hole}
+use Rattle.std.proofs.lemmas.Int.{ints}
 use Rattle.pentagon_domain.specs.declared.bound_row.BoundRow.{BoundRow}
 use Rattle.pentagon_domain.specs.Rows.{rows_from, rows_to}
-use Rattle.number_spans.specs.Sizes.{IsLong, IsLongHole}
+use Rattle.number_spans.specs.Sizes.{IsLong, IsLongHole, IsWide}
 use Rattle.number_spans.specs.Spans.{full}
 use Rattle.number_spans.specs.declared.span.Span.{Span}
-use Rattle.number_facts.specs.Ends.{cut_by_all, lowered_by, raised_by, span_at}
-use Rattle.number_facts.specs.Facts.{Facts}
+use Rattle.number_facts.specs.Ends.{cut_by_all, lowered_by, met, raised_by, span_at}
+use Rattle.number_facts.specs.Facts.{Facts, range_at}
 use Rattle.number_facts.specs.Sizes.{IsSum}
 use Rattle.number_facts.specs.SpanLists.{AreLeftBy, AreSpans, AreUnderWay, HasSums, HaveSums}
 use Rattle.number_facts.specs.SpanLists.{IsLeftBy, IsLowered, IsRaised, IsSpanOf, IsUnderWay}
@@ -66,31 +68,31 @@ from_other row s other = ne_eqb row.s s (λ e. other (sym e))
 
 pub raised_there : (facts : Facts) (row : BoundRow) (spans : List Span) (span : Span) → row.t < length spans
     → span.lo ≡ raised_by facts (get_or spans row.t full).lo row → span.hi ≡ (get_or spans row.t full).hi
-    → (s : ℕ) → IsRaised facts row s (get_or spans s full) (get_or (set spans row.t span) s full)
-raised_there facts row spans span inside low high =
+    → span.hole ≡ (get_or spans row.t full).hole → (s : ℕ) → IsRaised facts row s (get_or spans s full) (get_or (set spans row.t span) s full)
+raised_there facts row spans span inside low high hole =
     let here : (row.t == row.t) ≡ true = is_same row.t row.t refl in
     each_set (IsRaised facts row) spans row.t span full inside
-    (record { low = rw here low; high = high })
-    (λ s other. record { low = rw (to_other row s other) refl; high = refl })
+    (record { low = rw here low; high = high; hole = hole })
+    (λ s other. record { low = rw (to_other row s other) refl; high = refl; hole = refl })
 
 pub raised_past : (facts : Facts) (row : BoundRow) (spans : List Span) (s : ℕ) → length spans ≤ row.t → s < length spans
     → IsRaised facts row s (get_or spans s full) (get_or spans s full)
 raised_past facts row spans s past inside =
-    record { low = rw (to_other row s (λ e. omega (arith, e, past, inside))) refl; high = refl }
+    record { low = rw (to_other row s (λ e. omega (arith, e, past, inside))) refl; high = refl; hole = refl }
 
 pub lowered_there : (facts : Facts) (row : BoundRow) (spans : List Span) (span : Span) → row.s < length spans
     → span.lo ≡ (get_or spans row.s full).lo → span.hi ≡ lowered_by facts (get_or spans row.s full).hi row
-    → (s : ℕ) → IsLowered facts row s (get_or spans s full) (get_or (set spans row.s span) s full)
-lowered_there facts row spans span inside low high =
+    → span.hole ≡ (get_or spans row.s full).hole → (s : ℕ) → IsLowered facts row s (get_or spans s full) (get_or (set spans row.s span) s full)
+lowered_there facts row spans span inside low high hole =
     let here : (row.s == row.s) ≡ true = is_same row.s row.s refl in
     each_set (IsLowered facts row) spans row.s span full inside
-    (record { low = low; high = rw here high })
-    (λ s other. record { low = refl; high = rw (from_other row s other) refl })
+    (record { low = low; high = rw here high; hole = hole })
+    (λ s other. record { low = refl; high = rw (from_other row s other) refl; hole = refl })
 
 pub lowered_past : (facts : Facts) (row : BoundRow) (spans : List Span) (s : ℕ) → length spans ≤ row.s → s < length spans
     → IsLowered facts row s (get_or spans s full) (get_or spans s full)
 lowered_past facts row spans s past inside =
-    record { low = refl; high = rw (from_other row s (λ e. omega (arith, e, past, inside))) refl }
+    record { low = refl; high = rw (from_other row s (λ e. omega (arith, e, past, inside))) refl; hole = refl }
 
 pub sums_set : (spans : List Span) (t : ℕ) (span : Span) → t < length spans → HaveSums spans → HasSums span
     → HaveSums (set spans t span)
@@ -113,6 +115,7 @@ left_more facts rows i s d r m q inside left raised lowered sums =
     record {
       low = raised_more facts s rows i r.lo q.lo _ d inside low left.low;
       high = lowered_more facts s rows i r.hi q.hi _ d inside high left.high;
+      none = lowered.hole ∙ raised.hole ∙ left.none;
       sums = sums;
     }
 
@@ -123,6 +126,26 @@ left_all facts rows i s r past left = let none : drop i rows ≡ [] = drop_all i
 pub ruleset cuts = (left_more, left_all)
 
 -- ---- the spans are made
+
+wide_sum : (n : ℤ) → IsSum n → IsWide n
+wide_sum n is = record { least = omega (arith, ints, is.least); greatest = omega (arith, ints, is.greatest) }
+
+same_span : (r : Span) (lo hi : ℤ) (hole : Option ℤ) → r.lo ≡ lo → r.hi ≡ hi → r.hole ≡ hole
+    → r ≡ record { lo = lo; hi = hi; hole = hole }
+same_span r lo hi hole low high same = rw (← low, ← high, ← same) refl
+
+no_hole : (r : Span) (lo hi : ℤ) (hole : Option ℤ) → r.lo ≡ lo → r.hi ≡ hi → r.hole ≡ None → hole ≡ None → r ≡ met lo hi hole
+unfolding met inner_hole
+no_hole r lo hi hole low high own none = rw none (same_span r lo hi None low high own)
+
+-- Where a symbol has no hole, its ends are its numbers.
+pub whole_span : (facts : Facts) (s : ℕ) (r : Span) → (range_at facts s).hole ≡ None → IsLeftBy facts [] s r → IsSpanOf facts s r
+unfolding span_at
+whole_span facts s r none left = record {
+  value = no_hole r _ _ _ left.low left.high left.none none;
+  ends = record { low = wide_sum r.lo left.sums.low; high = wide_sum r.hi left.sums.high };
+  hole = rw left.none tt;
+}
 
 pub none_made : (facts : Facts) (spans : List Span) → AreLeftBy facts [] spans → AreUnderWay facts 0 spans
 none_made facts spans each = λ s inside. record {

@@ -1,5 +1,5 @@
 -- Lists of the spans of symbols, that of symbol s at place s, while bounds cut them.
-use Rattle.std.specs.Prelude.{◌≡◌, ℕ, ◌<◌, ◌≤◌, ℤ, List, [], ◌∷◌, EachIndex, slice_index_or}
+use Rattle.std.specs.Prelude.{◌≡◌, ℕ, ◌<◌, ◌≤◌, ℤ, List, [], ◌∷◌, None, EachIndex, slice_index_or}
 use Rattle.pentagon_domain.specs.declared.bound_row.BoundRow.{BoundRow}
 use Rattle.pentagon_domain.specs.Rows.{rows_from, rows_to}
 use Rattle.number_spans.specs.Sizes.{IsLong, IsLongHole}
@@ -21,18 +21,22 @@ HaveSums spans = EachIndex spans (λ s. HasSums (slice_index_or spans s full))
 pub record IsRaised (facts : Facts) (row : BoundRow) (s : ℕ) (r q : Span) : Type 0 where
   pub low : q.lo ≡ cut_by_all (raised_by facts) (rows_to (row ∷ []) s) r.lo
   pub high : q.hi ≡ r.hi
+  pub hole : q.hole ≡ r.hole
 
 -- And it lowers the upper end of the symbol from which it goes.
 pub record IsLowered (facts : Facts) (row : BoundRow) (s : ℕ) (r q : Span) : Type 0 where
   pub low : q.lo ≡ r.lo
   pub high : q.hi ≡ cut_by_all (lowered_by facts) (rows_from (row ∷ []) s) r.hi
+  pub hole : q.hole ≡ r.hole
 
--- The ends of a symbol as some bounds have left them: cut by the rest, they are what all bounds leave.
+-- The ends of a symbol as some bounds have left them: cut by the rest, they are what all bounds leave. There is no hole
+-- yet.
 pub record IsLeftBy (facts : Facts) (rest : List BoundRow) (s : ℕ) (r : Span) : Type 0 where
   pub low : cut_by_all (raised_by facts) (rows_to rest s) r.lo ≡
       cut_by_all (raised_by facts) (rows_to facts.bounds s) (range_at facts s).lo
   pub high : cut_by_all (lowered_by facts) (rows_from rest s) r.hi ≡
       cut_by_all (lowered_by facts) (rows_from facts.bounds s) (range_at facts s).hi
+  pub none : r.hole ≡ None
   pub sums : HasSums r
 
 abbrev pub AreLeftBy : Facts → List BoundRow → List Span → Type 0

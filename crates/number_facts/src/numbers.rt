@@ -31,13 +31,25 @@ impl Model for Numbers {
     ghost view = { λ n. record { ranges = n.ranges.items; definitions = n.definitions; bounds = n.bounds } };
 }
 
+/// For so many new symbols there is room in a copy of ranges.
+const SPARE: usize = 8;
+
+/// The same ranges again, with room for some more: what is copied is mostly about to gain symbols.
+fn roomy(alloc: Global, ranges: &[Range]) -> Result<Vec<Range>, NoMemory>
+    ensures { IfOk result (λ again. again.items ≡ ranges.now) }
+{
+    let mut again = Vec::with_capacity(alloc, ranges.len().saturating_add(SPARE))?;
+    again.extend_from_slice(ranges)?;
+    Ok(again)
+}
+
 impl Numbers {
     /// The same facts again. Costs one pass.
     pub fn copy(&self, alloc: Global) -> Result<Numbers, NoMemory>
         ensures { IfOk result (λ again. again ≡ self.now) }
     {
         Ok(Numbers {
-            ranges: Vec::from_slice(alloc, self.ranges.as_slice())?,
+            ranges: roomy(alloc, &self.ranges)?,
             definitions: self.definitions.copy(alloc)?,
             bounds: self.bounds.copy(alloc)?,
         })

@@ -6,8 +6,7 @@ ghost use Rattle.number_spans.specs.Sizes.{IsLong, IsLongHole};
 ghost use Rattle.number_spans.specs.Spans.{full};
 ghost use Rattle.number_facts.specs.Ends as rule;
 ghost use Rattle.number_facts.specs.Ends.{span_at};
-ghost use Rattle.number_facts.specs.Sizes.{IsSum};
-ghost use Rattle.number_facts.specs.SpanLists.{AreLeftBy, AreSpans, HaveSums, IsLeftBy, IsLowered, IsRaised, IsSpanOf};
+ghost use Rattle.number_facts.specs.SpanLists.{AreLeftBy, AreSpans, HasSums, HaveSums, IsLeftBy, IsLowered, IsRaised, IsSpanOf};
 
 use crate::ends::met;
 use crate::numbers::Numbers;
@@ -40,20 +39,22 @@ impl Numbers {
 
     /// Raises a lower end by a bound.
     fn raise_by(&self, span: &mut Span, row: &BoundRow)
-        requires { IsSum span.old.lo }
+        requires { HasSums span.old }
         ensures low { span.new.lo ≡ rule.raised_by self.now span.old.lo row.now }
         ensures high { span.new.hi ≡ span.old.hi }
-        ensures sum { IsSum span.new.lo }
+        ensures hole { span.new.hole ≡ span.old.hole }
+        ensures sums { HasSums span.new }
     {
         span.lo = self.raised_by(span.lo, row);
     }
 
     /// Lowers an upper end by a bound.
     fn lower_by(&self, span: &mut Span, row: &BoundRow)
-        requires { IsSum span.old.hi }
+        requires { HasSums span.old }
         ensures low { span.new.lo ≡ span.old.lo }
         ensures high { span.new.hi ≡ rule.lowered_by self.now span.old.hi row.now }
-        ensures sum { IsSum span.new.hi }
+        ensures hole { span.new.hole ≡ span.old.hole }
+        ensures sums { HasSums span.new }
     {
         span.hi = self.lowered_by(span.hi, row);
     }
@@ -111,6 +112,17 @@ impl Numbers {
         met(ends.lo, ends.hi, self.range_at(symbol).hole())
     }
 
+    /// Makes the numbers of a symbol of the ends that all bounds have cut: these are its numbers, unless it has a hole.
+    fn meet_hole(&self, span: &mut Span, symbol: u32)
+        requires { IsLeftBy self.now [] symbol span.old }
+        ensures { IsSpanOf self.now symbol span.new }
+    {
+        match self.range_at(symbol).hole() {
+            None => {}
+            Some(_) => *span = self.met_at(*span, symbol),
+        }
+    }
+
     /// Makes the numbers of so many symbols of the ends that all bounds have cut.
     #[tactic(auto, using(crate::proofs::SpanLists::meets))]
     fn meet_all(&self, spans: &mut [Span], count: u32)
@@ -120,8 +132,7 @@ impl Numbers {
         ensures length { length spans.new ≡ length spans.old }
     {
         for symbol in 0..count {
-            let place = symbol as usize;
-            spans[place] = self.met_at(spans[place], symbol);
+            self.meet_hole(&mut spans[symbol as usize], symbol);
         }
     }
 

@@ -101,6 +101,55 @@ reached_all k rows i t known whole past so_far =
     let none : drop i rows ≡ [] = drop_all i rows past in
     sym (greater_gap-none known) ∙ (ap (λ rest. greater_gap known rest) (sym (reach_nothing k t)) ∙ (rw none at so_far))
 
+-- ---- the same of those rows that go on from where a first one goes
+
+pub next_hit : (first row : BoundRow) (t : ℕ) (known now : Option ℤ) → (row.s == first.t) ≡ true
+    → now ≡ (if row.t == t then greater_gap known (cut (first.k +ℤ row.k)) else known)
+    → now ≡ greater_gap known (reach first.k (rows_from (row ∷ []) first.t) t)
+unfolding reach
+next_hit first row t known now same is =
+    elim (cases_Bool (row.t == t)) [
+      | inl here ↦ rw (same, here, greater_gap-none (cut (first.k +ℤ row.k))) (rw here at is)
+      | inr other ↦ rw (same, other, greater_gap-none known) (rw other at is)
+    ]
+
+pub next_miss : (first row : BoundRow) (t : ℕ) (known : Option ℤ) → (row.s == first.t) ≡ false
+    → known ≡ greater_gap known (reach first.k (rows_from (row ∷ []) first.t) t)
+unfolding reach
+next_miss first row t known apart = rw apart (sym (greater_gap-none known))
+
+next_first : (k : ℤ) (row : BoundRow) (rest : List BoundRow) (s t : ℕ) → reach k (rows_from (row ∷ rest) s) t
+    ≡ greater_gap (reach k (rows_from (row ∷ []) s) t) (reach k (rows_from rest s) t)
+unfolding reach
+next_first k row rest s t =
+    elim (cases_Bool (row.s == s)) [
+      | inl same ↦
+          elim (cases_Bool (row.t == t)) [
+            | inl here ↦ rw (same, here, greater_gap-none (cut (k +ℤ row.k))) refl
+            | inr other ↦ rw (same, other) refl
+          ]
+      | inr apart ↦ rw apart refl
+    ]
+
+pub next_more : (first : BoundRow) (rows : List BoundRow) (i t : ℕ) (known now whole : Option ℤ) (d : BoundRow) → i < length rows
+    → now ≡ greater_gap known (reach first.k (rows_from (get_or rows i d ∷ []) first.t) t)
+    → greater_gap known (reach first.k (rows_from (drop i rows) first.t) t) ≡ whole
+    → greater_gap now (reach first.k (rows_from (drop (i + 1) rows) first.t) t) ≡ whole
+next_more first rows i t known now whole d inside becomes so_far =
+    let row = get_or rows i d in
+    let rest = drop (suc i) rows in
+    let split : drop i rows ≡ row ∷ rest = drop-cons rows i d inside in
+    let one = reach first.k (rows_from (row ∷ []) first.t) t in
+    rw (add-one, becomes)
+    (greater_gap_assoc known one (reach first.k (rows_from rest first.t) t)
+    ∙ ap (greater_gap known) (sym (next_first first.k row rest first.t t)) ∙ (rw split at so_far))
+
+pub next_all : (first : BoundRow) (rows : List BoundRow) (i t : ℕ) (known whole : Option ℤ) → length rows ≤ i
+    → greater_gap known (reach first.k (rows_from (drop i rows) first.t) t) ≡ whole → known ≡ whole
+next_all first rows i t known whole past so_far =
+    let none : drop i rows ≡ [] = drop_all i rows past in
+    sym (greater_gap-none known) ∙ (ap (λ rest. greater_gap known rest) (sym (reach_nothing first.k t)) ∙ (rw none at so_far))
+
 -- ---- the same over bounds of which each has others behind it
 
 pub behind_more : (rows firsts : List BoundRow) (i t : ℕ) (known whole : Option ℤ) (d : BoundRow) → i < length firsts

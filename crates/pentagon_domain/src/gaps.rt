@@ -1,6 +1,6 @@
 //! How far symbols are known to lie above others.
 
-ghost use Rattle.std.specs.Prelude.{◌≡◌, ◌≢◌, ◌==◌, true, List, ℕ, ℤ, ◌+ℤ◌, EachIndex, slice_index_or};
+ghost use Rattle.std.specs.Prelude.{◌≡◌, ◌≢◌, ◌==◌, true, List, [], ◌∷◌, ℕ, ℤ, ◌+ℤ◌, EachIndex, slice_index_or};
 ghost use Rattle.std.specs.Prelude.{option_map, option_and_then, if◌then◌else◌};
 ghost use Rattle.domain_api.specs.Order.{greater_gap};
 ghost use Rattle.pentagon_domain.specs.declared.bound_row.BoundRow.{BoundRow};
@@ -8,6 +8,7 @@ ghost use Rattle.pentagon_domain.specs.Gaps as rule;
 ghost use Rattle.pentagon_domain.specs.Gaps.{cut, greatest_sum};
 ghost use Rattle.pentagon_domain.specs.Most.{IsLow, is_reached};
 ghost use Rattle.pentagon_domain.specs.Reach.{reach};
+ghost use Rattle.pentagon_domain.specs.Rows.{rows_from};
 
 use crate::bound_row::BoundRow;
 use crate::bounds::Bounds;
@@ -15,7 +16,8 @@ use crate::idle::{is_idle, lowest};
 use crate::search::{Guess, rows_near};
 use domain_api::Order;
 
-/// So many bounds are many: it is worth a pass over all gaps to know which bounds behind them tell nothing.
+/// So many bounds are many: of fewer all are looked at, where a search among them, or a pass over all gaps, would tell
+/// which of them need no look.
 const MANY: usize = 12;
 
 /// An exact number as a gap of 64 bits.
@@ -127,6 +129,26 @@ fn raise_all(gaps: &mut [Option<i64>], rows: &[BoundRow], k: i64)
     }
 }
 
+/// Raises the gap to the symbol to which a bound goes, where it goes from that to which the first one does: by both.
+fn raise_by(gaps: &mut [Option<i64>], first: &BoundRow, next: &BoundRow)
+    ensures { EachIndex gaps.new (λ t. slice_index_or gaps.new t None ≡
+        greater_gap (slice_index_or gaps.old t None) (reach first.now.k (rows_from (next.now ∷ []) first.now.t) t)) }
+{
+    if next.s == first.t {
+        raise(gaps, next.t, first.k, next.k);
+    }
+}
+
+/// Raises the gap to each symbol by what those of some bounds say that go on from where the first one goes.
+fn raise_among(gaps: &mut [Option<i64>], first: &BoundRow, rows: &[BoundRow])
+    ensures { EachIndex gaps.new (λ t. slice_index_or gaps.new t None ≡
+        greater_gap (slice_index_or gaps.old t None) (reach first.now.k (rows_from rows.now first.now.t) t)) }
+{
+    for next in rows {
+        raise_by(gaps, first, next);
+    }
+}
+
 /// Forgets all gaps.
 fn clear(gaps: &mut [Option<i64>])
     ensures { EachIndex gaps.new (λ t. slice_index_or gaps.new t None ≡ None) }
@@ -137,7 +159,7 @@ fn clear(gaps: &mut [Option<i64>])
 }
 
 impl Bounds {
-    ghost use Rattle.pentagon_domain.specs.Rows.{AreBounds, rows_from, stored};
+    ghost use Rattle.pentagon_domain.specs.Rows.{AreBounds, stored};
     ghost use Rattle.pentagon_domain.specs.Gaps.{Allows, LiesAbove, direct_gap, gap, gap_with};
 
     /// The gap of two symbols where from the number of the first to that of the second it is known to be
@@ -207,6 +229,20 @@ impl Bounds {
             (option_and_then cut (option_map (λ l. first.now.k +ℤ l) (stored self.now first.now.t t)))) }
     {
         if !is_idle(first.k, self.most(), low) {
+            self.raise_next(first, guess, gaps);
+        }
+    }
+
+    /// The same, where each bound is looked at that goes on from there. Of few bounds all are looked at.
+    fn raise_next(&self, first: &BoundRow, guess: &mut Guess, gaps: &mut [Option<i64>])
+        ensures value { EachIndex gaps.new (λ t. slice_index_or gaps.new t None ≡ greater_gap
+            (slice_index_or gaps.old t None) (reach first.now.k (rows_from self.now first.now.t) t)) }
+        ensures form { AreBounds self.now }
+    {
+        let rows = self.rows();
+        if rows.len() < MANY {
+            raise_among(gaps, first, rows);
+        } else {
             raise_all(gaps, self.rows_near(first.t, guess), first.k);
         }
     }

@@ -6,9 +6,8 @@ use Rattle.pentagon_domain.proofs.bounds.Bounds.raise_beyond.Goals as goal
 
 pub returns-then-not-is_idle : goal.returns-then-not-is_idle
 returns-then-not-is_idle c = λ t inside _.
-    let first : FitsSigned w64 c.args.first.now.k = search rules in
-    let raised = rw (to_z-of_z w64 c.args.first.now.k first, c.rows_near.ensures.value) at (c.raise_all.ensures t inside) in
-    beyond_is c.args.self.now c.args.first.now t (get_or c.args.gaps.now t None) (get_or c.raise_all.new.gaps t None) c.rows_near.ensures.form raised
+    beyond_is c.args.self.now c.args.first.now t (get_or c.args.gaps.now t None) (get_or c.raise_next.new.gaps t None) c.raise_next.ensures.form
+    (c.raise_next.ensures.value t inside)
 
 pub returns-else-not-is_idle : goal.returns-else-not-is_idle
 returns-else-not-is_idle c = λ t inside low.
