@@ -87,10 +87,10 @@ impl Sides<'_> {
     ) -> Result<(), NoMemory>
         requires one { AreMeasured self.now.a.spans.now }
         requires other { AreMeasured self.now.b.spans.now }
-        requires first { IfSome first (λ row. IsRow row.now (known self.now.a) (get_or self.now.keys.now i origin).s) }
+        requires first { IfSome first (λ r. IsRow r.now (known self.now.a) (get_or self.now.keys.now i origin).s) }
         requires bare { first ≡ None → rows_from self.now.a.bounds.now (get_or self.now.keys.now i origin).s ≡ [] }
-        requires second { IfSome second (λ row. IsRow row.now (known self.now.b) (get_or self.now.keys.now i origin).t) }
-        requires also_bare { second ≡ None → rows_from self.now.b.bounds.now (get_or self.now.keys.now i origin).t ≡ [] }
+        requires second { IfSome second (λ r. IsRow r.now (known self.now.b) (get_or self.now.keys.now i origin).t) }
+        requires bare_too { second ≡ None → rows_from self.now.b.bounds.now (get_or self.now.keys.now i origin).t ≡ [] }
         requires ranges { length ranges.now ≡ length self.now.keys.now }
         requires from { i < length self.now.keys.now }
         requires to { j < length self.now.keys.now }
@@ -127,10 +127,10 @@ impl Sides<'_> {
     ) -> Result<(), NoMemory>
         requires one { AreMeasured self.now.a.spans.now }
         requires other { AreMeasured self.now.b.spans.now }
-        requires first { IfSome first (λ row. IsRow row.now (known self.now.a) (get_or self.now.keys.now i origin).s) }
+        requires first { IfSome first (λ r. IsRow r.now (known self.now.a) (get_or self.now.keys.now i origin).s) }
         requires bare { first ≡ None → rows_from self.now.a.bounds.now (get_or self.now.keys.now i origin).s ≡ [] }
-        requires second { IfSome second (λ row. IsRow row.now (known self.now.b) (get_or self.now.keys.now i origin).t) }
-        requires also_bare { second ≡ None → rows_from self.now.b.bounds.now (get_or self.now.keys.now i origin).t ≡ [] }
+        requires second { IfSome second (λ r. IsRow r.now (known self.now.b) (get_or self.now.keys.now i origin).t) }
+        requires bare_too { second ≡ None → rows_from self.now.b.bounds.now (get_or self.now.keys.now i origin).t ≡ [] }
         requires ranges { length ranges.now ≡ length self.now.keys.now }
         requires inside { i < length self.now.keys.now }
         ensures { OnOk result (bounds.new ≡ row_of (merged_gap self.now.rule (known self.now.a) (known self.now.b))
