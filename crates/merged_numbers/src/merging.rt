@@ -180,7 +180,7 @@ impl Sides<'_> {
         let Some(ranges) = self.ranges(alloc)? else {
             return Ok(None);
         };
-        let mut bounds = BoundsBuilder::new(alloc);
+        let mut bounds = BoundsBuilder::with_capacity(alloc, self.a.bounds.rows().len())?;
         self.add_rows(alloc, &mut bounds, ranges.as_slice())?;
         let bounds = built(alloc, bounds, self.a.bounds)?;
         let bounds = noted(alloc, bounds, ranges.as_slice())?;

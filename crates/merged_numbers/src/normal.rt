@@ -176,7 +176,7 @@ impl Own<'_> {
         if is_tight && self.is_kept() {
             return self.a.bounds.copy(alloc);
         }
-        let mut bounds = BoundsBuilder::new(alloc);
+        let mut bounds = BoundsBuilder::with_capacity(alloc, self.a.bounds.rows().len())?;
         self.add_rows(alloc, is_tight, &mut bounds)?;
         noted(alloc, bounds.build()?, self.ranges)
     }
