@@ -1,5 +1,5 @@
 -- What the new ranges tell is not stored.
-use Rattle.std.proofs.Common.{◌≡◌, ℕ, zero, suc, ◌<◌, ℤ, pos, ◌+ℤ◌, ◌-ℤ◌, ◌≤ℤ◌, true, false, ◌||◌, List, [], ◌∷◌, length, get_or, slice_get, Option, Some, None, int_lt, int_le, refl, sym, ap, ◌∙◌, inl, inr, arith}
+use Rattle.std.proofs.Common.{◌≡◌, ℕ, zero, suc, ◌+◌, ◌<◌, ℤ, pos, ◌+ℤ◌, ◌-ℤ◌, ◌≤ℤ◌, true, false, ◌&&◌, ◌||◌, List, [], ◌∷◌, length, get_or, slice_get, Option, Some, None, int_lt, int_le, refl, sym, ap, ◌∙◌, inl, inr, arith}
 use Rattle.std.specs.Prelude.{option_map, option_and_then}
 use Rattle.std.specs.Int.{int_min, int_max}
 use Rattle.std.specs.Ordering.{int_eq}
@@ -11,6 +11,7 @@ use Rattle.interval_domain.specs.Interval as intervals
 use Rattle.interval_domain.specs.Interval.{Interval, is_hole, lost, lowered, one, raised, without}
 use Rattle.pentagon_domain.specs.declared.bound_row.BoundRow.{BoundRow}
 use Rattle.pentagon_domain.specs.Gaps.{cut}
+use Rattle.pentagon_domain.specs.Rows.{is_pair, with_bound}
 use Rattle.number_spans.specs.Spans.{moved_hole}
 use Rattle.number_spans.specs.Stored.{range_without}
 use Rattle.number_spans.specs.declared.span.Span.{Span}
@@ -22,7 +23,7 @@ use Rattle.merged_numbers.specs.declared.term.Term.{Term}
 use Rattle.merged_numbers.specs.Known.{Known, between, distance, int32_of, int32s, met, term_gap, term_of}
 use Rattle.merged_numbers.specs.Rows.{Tells, beside}
 use Rattle.merged_numbers.specs.Spans.{but_for, gap_by, stored}
-use Rattle.merged_numbers.specs.Merging.{is_told, merged_gap, own_gap, own_span, put_before, ranges_of, told, with_gap}
+use Rattle.merged_numbers.specs.Merging.{is_constant, is_told, merged_gap, own_gap, own_span, put_before, ranges_of, told, with_gap}
 use Rattle.merged_numbers.proofs.RowLaws.{gap_itself, get_or-any}
 
 -- ---- a range that is stored lies within its span
@@ -114,6 +115,20 @@ own_inside : (a : Known) (u : Key) (r : Span) → slice_get a.spans u.s ≡ Some
     → ((r.lo +ℤ u.first) ≤ℤ (own_span a u).lo) × ((own_span a u).hi ≤ℤ (r.hi +ℤ u.first))
 unfolding int32s
 own_inside a u r is = rw is (int32_inside r u.first)
+
+-- ---- the gap of a key and itself
+
+no_pair : (i : ℕ) → is_pair (i + 1) (i + 1) ≡ false
+no_pair i = grind arith
+
+pub with_itself : (apart : ℤ) (i : ℕ) (gap : Option ℤ) (rows : List BoundRow) → with_gap apart i i gap rows ≡ rows
+with_itself apart i None rows = refl
+with_itself apart i (Some k) rows =
+    cond_both (int_lt apart k && is_constant k) (with_bound rows (i + 1) (i + 1) k) rows (λ made. made ≡ rows) (λ e. rw (no_pair i) refl) (λ e. refl)
+
+-- Of the key at a place and itself nothing is stored.
+pub pair_itself : (apart : ℤ) (i j : ℕ) (gap : Option ℤ) (rows : List BoundRow) → i ≡ j → rows ≡ with_gap apart i j gap rows
+pair_itself apart i j gap rows same = rw (sym same) (sym (with_itself apart i gap rows))
 
 -- ---- gaps by ranges alone
 

@@ -1,13 +1,13 @@
 -- Where each bound that is stored says more than the new ranges, the normal form stores them all.
-use Rattle.std.proofs.Common.{◌≡◌, ◌≢◌, ℕ, zero, suc, ◌+◌, ◌<◌, ◌≤◌, ℤ, pos, ◌+ℤ◌, ◌-ℤ◌, true, false, ◌&&◌, int_lt, List, [], ◌∷◌, length, get_or, Option, Some, None, refl, sym, ap, ◌∙◌, add-one, inl, inr, arith}
+use Rattle.std.proofs.Common.{◌≡◌, ◌≢◌, ℕ, zero, suc, ◌+◌, ◌<◌, ◌≤◌, ℤ, pos, ◌+ℤ◌, ◌-ℤ◌, true, ◌&&◌, int_lt, List, [], ◌∷◌, length, get_or, Option, Some, None, refl, sym, ap, ◌∙◌, add-one, inl, inr, arith}
 use Rattle.std.specs.Prelude.{option_map, option_and_then}
 use Rattle.std.specs.List.{AllByRecursion, list_all}
-use Rattle.std.proofs.lemmas.Bool.{and_parts, cases_eq, cond_both}
+use Rattle.std.proofs.lemmas.Bool.{and_parts, cases_eq}
 use Rattle.std.proofs.lemmas.Int.{ints}
 use Rattle.std.proofs.lemmas.Option.{slice_get-get_or}
 use Rattle.interval_domain.specs.Interval.{Interval, one}
 use Rattle.pentagon_domain.specs.declared.bound_row.BoundRow.{BoundRow}
-use Rattle.pentagon_domain.specs.Rows.{AreBounds, is_pair, stored, with_bound}
+use Rattle.pentagon_domain.specs.Rows.{AreBounds, is_pair, stored}
 use Rattle.pentagon_domain.specs.Gaps.{AreBelow, cut, direct_gap}
 use Rattle.pentagon_domain.proofs.TightGaps.{direct_apart, direct_same}
 use Rattle.symbolic_values.specs.declared.pairs.Key.{Key}
@@ -16,7 +16,7 @@ use Rattle.merged_numbers.specs.Known.{Known}
 use Rattle.merged_numbers.specs.Rows.{IsTight}
 use Rattle.merged_numbers.specs.Merging.{is_constant, own_gap, own_span, ranges_of, row_of, rows_of, told, with_gap}
 use Rattle.merged_numbers.specs.Own.{AreOwn, range_of, says_more, tells_more}
-use Rattle.merged_numbers.proofs.ApartLaws.{by_row}
+use Rattle.merged_numbers.proofs.ApartLaws.{by_row, with_itself}
 use Rattle.merged_numbers.proofs.Prefixes.{all_prefix, prefix, prefix_next, none_first, put_prefix, put_some, stored_itself, stored_so}
 use Rattle.merged_numbers.proofs.RangeLists.{ranges_length}
 use Rattle.merged_numbers.proofs.RowLaws.{stored_tells}
@@ -61,14 +61,6 @@ fits_cut k fits = grind (arith, ints)
 pair_at : (i j : ℕ) → i ≢ j → is_pair (i + 1) (j + 1) ≡ true
 pair_at i j apart = grind arith
 
-no_pair : (i : ℕ) → is_pair (i + 1) (i + 1) ≡ false
-no_pair i = grind arith
-
--- Of a symbol and itself nothing is stored.
-with_itself : (apart : ℤ) (i : ℕ) (k : ℤ) (rows : List BoundRow) → with_gap apart i i (Some k) rows ≡ rows
-with_itself apart i k rows =
-    cond_both (int_lt apart k && is_constant k) (with_bound rows (i + 1) (i + 1) k) rows (λ made. made ≡ rows) (λ e. rw (no_pair i) refl) (λ e. refl)
-
 more_put : (apart : ℤ) (i j : ℕ) (k : ℤ) (rows : List BoundRow) → i ≢ j → (int_lt apart k && is_constant k) ≡ true
     → with_gap apart i j (cut k) rows ≡ put_some rows (i + 1) (j + 1) (Some k)
 more_put apart i j k rows other more =
@@ -90,7 +82,7 @@ direct_put ranges rows x i j form more first second =
     elim (cases_eq i j) [
       | inl same ↦
           rw (sym same)
-          (rw (direct_same rows (i + 1) (i + 1) refl, stored_itself rows (i + 1) form) (with_itself (told ranges i i) i (pos 0) x))
+          (rw (direct_same rows (i + 1) (i + 1) refl, stored_itself rows (i + 1) form) (with_itself (told ranges i i) i (Some (pos 0)) x))
       | inr other ↦
           rw (direct_apart rows (i + 1) (j + 1) (λ e. other (omega (arith, e))))
           (stored_put ranges rows x i j (stored rows (i + 1) (j + 1)) more first second other refl)

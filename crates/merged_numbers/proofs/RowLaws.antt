@@ -1,8 +1,9 @@
 -- Gaps that are read from a row.
-use Rattle.std.proofs.Common.{◌≡◌, ◌≢◌, ℕ, zero, suc, ◌+◌, ◌<◌, ◌≤◌, ℤ, pos, List, [], ◌∷◌, length, get_or, Option, Some, None, refl, sym, ap, subst, ◌∙◌, add-one, arith}
-use Rattle.std.specs.Prelude.{EachIndex}
+use Rattle.std.proofs.Common.{◌≡◌, ◌≢◌, ℕ, zero, suc, ◌+◌, ◌<◌, ◌≤◌, ◌==◌, ℤ, pos, List, [], ◌∷◌, length, get_or, Option, Some, None, refl, sym, ap, subst, ◌∙◌, add-one, arith}
+use Rattle.std.specs.Prelude.{EachIndex, if◌then◌else◌}
 use Rattle.interval_domain.specs.Interval.{Interval}
 use Rattle.pentagon_domain.specs.Gaps as by_bounds
+use Rattle.pentagon_domain.specs.Rows.{rows_from}
 use Rattle.symbolic_values.specs.declared.pairs.Key.{Key}
 use Rattle.symbolic_values.specs.Pairing.{origin}
 use Rattle.merged_numbers.specs.Merging.{steps, told, with_gap, row_of, rows_of}
@@ -36,6 +37,15 @@ gap_tells side s t known is = record {
   itself = λ same. is ∙ gap_same side.bounds s t same;
   others = λ other. ap (λ k. beside k (between side s t)) is ∙ with_spans side.bounds (between side s t) s t other;
 }
+
+-- From a symbol from which no bound goes, the symbol itself alone is known to lie so far.
+bare_gap : (rows : List BoundRow) (s t : ℕ) → rows_from rows s ≡ [] → by_bounds.gap rows s t ≡ (if s == t then Some (pos 0) else None)
+unfolding by_bounds.gap by_bounds.exact_gap by_bounds.greatest_sum
+bare_gap rows s t none = rw none refl
+
+pub bare_tells : (side : Known) (s t : ℕ) (known : Option ℤ) → rows_from side.bounds s ≡ [] → known ≡ (if s == t then Some (pos 0) else None)
+    → Tells side s t known
+bare_tells side s t known none is = gap_tells side s t known (is ∙ sym (bare_gap side.bounds s t none))
 
 pub gaps_tell : (side : Known) (s : ℕ) (row : List (Option ℤ)) → EachIndex row (λ t. get_or row t None ≡ by_bounds.gap side.bounds s t) → IsRow row side s
 gaps_tell side s row are = λ t inside. gap_tells side s t (get_or row t None) (are t inside)

@@ -1,5 +1,5 @@
 -- What a state says of terms is so where all that it knows is.
-use Rattle.std.proofs.Common.{◌≡◌, ◌≢◌, ℕ, ℤ, pos, ◌+ℤ◌, ◌-ℤ◌, ◌≤ℤ◌, true, Option, Some, None, FitsSigned, w32, slice_get, refl, ap, arith}
+use Rattle.std.proofs.Common.{◌≡◌, ◌≢◌, ℕ, ℤ, pos, ◌+ℤ◌, ◌-ℤ◌, ◌≤ℤ◌, Bool, true, false, not, Option, Some, None, is_some, FitsSigned, w32, slice_get, refl, sym, ap, ◌∙◌, arith}
 use Rattle.std.specs.Prelude.{option_map, if◌then◌else◌}
 use Rattle.std.specs.Int.{int_min, int_max}
 use Rattle.std.proofs.lemmas.Bool.{cond_both}
@@ -16,6 +16,20 @@ use Rattle.merged_numbers.specs.Known.{Known, worth, met, int32_of, int32_or_ful
 use Rattle.merged_numbers.specs.Meaning.{AllowsKnown}
 
 -- ---- the numbers of a term
+
+-- What is not there is none.
+pub none_there : {A : Type 0} (o : Option A) (is_none : Bool) → is_some o ≡ not is_none → is_none ≡ true → o ≡ None
+none_there None is_none is none = refl
+none_there (Some x) is_none is none = let both : true ≡ false = rw none at is in absurd cc
+
+-- Without a hole the ends stay.
+met_between : (lo hi : ℤ) → record { lo = lo; hi = hi; hole = None } ≡ met lo hi None
+unfolding met inner_hole
+met_between lo hi = refl
+
+pub met_whole : (lo hi : ℤ) (hole : Option ℤ) (is_none : Bool) → is_some hole ≡ not is_none → is_none ≡ true
+    → record { lo = lo; hi = hi; hole = None } ≡ met lo hi hole
+met_whole lo hi hole is_none is none = met_between lo hi ∙ ap (met lo hi) (sym (none_there hole is_none is none))
 
 hole_apart : (hole : Option ℤ) (k n : ℤ) → is_hole hole k ≡ true → hole ≢ Some n → n ≢ k
 hole_apart None k n is apart = λ e. grind (arith, is)

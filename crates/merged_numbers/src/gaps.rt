@@ -1,7 +1,9 @@
 //! How far keys lie apart, and the bounds of this.
 
-ghost use Rattle.std.specs.Prelude.{◌≡◌, ◌<◌, ◌+◌, ◌+ℤ◌, ◌-ℤ◌, length, None, option_map, IfOk, OnOk};
+ghost use Rattle.std.specs.Prelude.{◌≡◌, ◌==◌, ◌<◌, ◌+◌, pos, ◌+ℤ◌, ◌-ℤ◌, [], length, Some, None, option_map};
+ghost use Rattle.std.specs.Prelude.{IfOk, IfSome, OnOk, if◌then◌else◌};
 ghost use Rattle.number_spans.specs.Sizes.{IsWide};
+ghost use Rattle.pentagon_domain.specs.Rows.{rows_from};
 ghost use Rattle.merged_numbers.specs.Known as rule;
 ghost use Rattle.merged_numbers.specs.Known.{between, known};
 ghost use Rattle.merged_numbers.specs.Meaning.{AreMeasured};
@@ -15,6 +17,13 @@ use domain_api::{NoMemory, Order};
 use interval_domain::Range;
 use pentagon_domain::{BoundsBuilder, raised_gap};
 use std::alloc::AllocError;
+
+/// What is known of a symbol and of another one, where no bound goes from the first: it lies nowhere above itself.
+fn from_itself(s: u32, t: u32) -> Option<i64>
+    ensures { result ≡ (if s == t then Some (pos 0) else None) }
+{
+    if s == t { Some(0) } else { None }
+}
 
 /// A gap with a constant more, which may leave 64 bits.
 pub(crate) fn moved(gap: Option<i64>, from: i128, to: i128) -> Option<i128>
@@ -43,13 +52,26 @@ impl Side<'_> {
 
     /// What a row has of a symbol. One that has no place is looked for.
     #[tactic(auto, using(crate::proofs::RowLaws::gap_tells))]
-    pub(crate) fn known_by_row(&self, row: &[Option<i64>], s: u32, t: u32) -> Option<i64>
+    fn known_in_row(&self, row: &[Option<i64>], s: u32, t: u32) -> Option<i64>
         requires { IsRow row.now (known self.now) s }
         ensures { Tells (known self.now) s t result }
     {
         match row.get(t as usize) {
             None => self.bounds.gap(s, t),
             Some(gap) => *gap,
+        }
+    }
+
+    /// What the row of a symbol tells of another one. Where there is none, no bound goes from the first.
+    #[tactic(auto, using(crate::proofs::RowLaws::bare_tells))]
+    pub(crate) fn known_by_row(&self, row: Option<&[Option<i64>]>, s: u32, t: u32) -> Option<i64>
+        requires row { IfSome row (λ row. IsRow row.now (known self.now) s) }
+        requires bare { row ≡ None → rows_from self.now.bounds.now s ≡ [] }
+        ensures { Tells (known self.now) s t result }
+    {
+        match row {
+            None => from_itself(s, t),
+            Some(row) => self.known_in_row(row, s, t),
         }
     }
 
@@ -66,9 +88,10 @@ impl Side<'_> {
 
     /// How far the second symbol is known to lie above the first, by the row of the first.
     #[tactic(auto, using(crate::proofs::RowLaws::gap_itself, crate::proofs::RowLaws::told_gap))]
-    fn gap_by_row(&self, row: &[Option<i64>], s: u32, t: u32) -> Option<i64>
+    fn gap_by_row(&self, row: Option<&[Option<i64>]>, s: u32, t: u32) -> Option<i64>
         requires measured { AreMeasured self.now.spans.now }
-        requires row { IsRow row.now (known self.now) s }
+        requires row { IfSome row (λ row. IsRow row.now (known self.now) s) }
+        requires bare { row ≡ None → rows_from self.now.bounds.now s ≡ [] }
         ensures { result ≡ rule.gap (known self.now) s t }
     {
         if s == t {
@@ -79,9 +102,10 @@ impl Side<'_> {
 
     /// How far the second term is known to lie above the first, by the row of the first one's symbol.
     #[tactic(auto, unfolding(crate::specs::Known::term_gap))]
-    pub(crate) fn term_gap(&self, row: &[Option<i64>], x: Term, y: Term) -> Option<i128>
+    pub(crate) fn term_gap(&self, row: Option<&[Option<i64>]>, x: Term, y: Term) -> Option<i128>
         requires measured { AreMeasured self.now.spans.now }
-        requires row { IsRow row.now (known self.now) x.sym }
+        requires row { IfSome row (λ row. IsRow row.now (known self.now) x.sym) }
+        requires bare { row ≡ None → rows_from self.now.bounds.now x.sym ≡ [] }
         requires first { IsWide x.k }
         requires second { IsWide y.k }
         ensures { result ≡ rule.term_gap (known self.now) x y }

@@ -73,7 +73,7 @@ fn lowered(hi: i128) -> i128
 }
 
 /// A hole with k added.
-pub(crate) fn moved_hole(hole: Option<i128>, k: i128) -> Option<i128>
+fn moved_hole(hole: Option<i128>, k: i128) -> Option<i128>
     requires hole { IsLongHole hole }
     requires more { IsWide k }
     ensures { result ≡ moved_hole hole k }
@@ -128,6 +128,9 @@ fn met(lo: i128, hi: i128, hole: Option<i128>) -> Span
     requires high { IsBounded hi }
     ensures { result ≡ rule.met lo hi hole }
 {
+    if hole.is_none() {
+        return Span { lo, hi, hole: None };
+    }
     Span {
         lo: behind_hole(lo, hole),
         hi: before_hole(hi, hole),

@@ -1,6 +1,7 @@
 //! Two states as one.
 
-ghost use Rattle.std.specs.Prelude.{◌≡◌, ◌<◌, length, get_or, None, option_map, true, false, IfOk, OnOk};
+ghost use Rattle.std.specs.Prelude.{◌≡◌, ◌<◌, [], length, get_or, None, option_map, true, false, IfOk, IfSome, OnOk};
+ghost use Rattle.pentagon_domain.specs.Rows.{rows_from};
 ghost use Rattle.symbolic_values.specs.Pairing.{origin};
 ghost use Rattle.merged_numbers.specs.Known.{known};
 ghost use Rattle.merged_numbers.specs.Meaning.{AreMeasured, HaveForm, Keeps};
@@ -79,15 +80,17 @@ impl Sides<'_> {
         &self,
         bounds: &mut BoundsBuilder,
         ranges: &[Range],
-        first: &[Option<i64>],
-        second: &[Option<i64>],
+        first: Option<&[Option<i64>]>,
+        second: Option<&[Option<i64>]>,
         i: usize,
         j: usize,
     ) -> Result<(), NoMemory>
         requires one { AreMeasured self.now.a.spans.now }
         requires other { AreMeasured self.now.b.spans.now }
-        requires first { IsRow first.now (known self.now.a) (get_or self.now.keys.now i origin).s }
-        requires second { IsRow second.now (known self.now.b) (get_or self.now.keys.now i origin).t }
+        requires first { IfSome first (λ r. IsRow r.now (known self.now.a) (get_or self.now.keys.now i origin).s) }
+        requires bare { first ≡ None → rows_from self.now.a.bounds.now (get_or self.now.keys.now i origin).s ≡ [] }
+        requires second { IfSome second (λ r. IsRow r.now (known self.now.b) (get_or self.now.keys.now i origin).t) }
+        requires bare_too { second ≡ None → rows_from self.now.b.bounds.now (get_or self.now.keys.now i origin).t ≡ [] }
         requires ranges { length ranges.now ≡ length self.now.keys.now }
         requires from { i < length self.now.keys.now }
         requires to { j < length self.now.keys.now }
@@ -95,6 +98,9 @@ impl Sides<'_> {
             (merged_gap self.now.rule (known self.now.a) (known self.now.b) (get_or self.now.keys.now i origin)
             (get_or self.now.keys.now j origin)) bounds.old) }
     {
+        if i == j {
+            return Ok(());
+        }
         let from = &self.keys[i];
         let to = &self.keys[j];
         let left = self
@@ -115,14 +121,16 @@ impl Sides<'_> {
         &self,
         bounds: &mut BoundsBuilder,
         ranges: &[Range],
-        first: &[Option<i64>],
-        second: &[Option<i64>],
+        first: Option<&[Option<i64>]>,
+        second: Option<&[Option<i64>]>,
         i: usize,
     ) -> Result<(), NoMemory>
         requires one { AreMeasured self.now.a.spans.now }
         requires other { AreMeasured self.now.b.spans.now }
-        requires first { IsRow first.now (known self.now.a) (get_or self.now.keys.now i origin).s }
-        requires second { IsRow second.now (known self.now.b) (get_or self.now.keys.now i origin).t }
+        requires first { IfSome first (λ r. IsRow r.now (known self.now.a) (get_or self.now.keys.now i origin).s) }
+        requires bare { first ≡ None → rows_from self.now.a.bounds.now (get_or self.now.keys.now i origin).s ≡ [] }
+        requires second { IfSome second (λ r. IsRow r.now (known self.now.b) (get_or self.now.keys.now i origin).t) }
+        requires bare_too { second ≡ None → rows_from self.now.b.bounds.now (get_or self.now.keys.now i origin).t ≡ [] }
         requires ranges { length ranges.now ≡ length self.now.keys.now }
         requires inside { i < length self.now.keys.now }
         ensures { OnOk result (bounds.new ≡ row_of (merged_gap self.now.rule (known self.now.a) (known self.now.b))
@@ -153,11 +161,10 @@ impl Sides<'_> {
         let is_first = self.a.is_tight();
         let is_second = self.b.is_tight();
         for i in 0..self.keys.len() {
-            self.a
-                .write_row(is_first, self.keys[i].s, first.as_mut_slice());
-            self.b
-                .write_row(is_second, self.keys[i].t, second.as_mut_slice());
-            self.add_row(bounds, ranges, first.as_slice(), second.as_slice(), i)?;
+            let key = &self.keys[i];
+            let left = self.a.row_from(is_first, key.s, first.as_mut_slice());
+            let right = self.b.row_from(is_second, key.t, second.as_mut_slice());
+            self.add_row(bounds, ranges, left, right, i)?;
         }
         Ok(())
     }
@@ -173,7 +180,7 @@ impl Sides<'_> {
         let Some(ranges) = self.ranges(alloc)? else {
             return Ok(None);
         };
-        let mut bounds = BoundsBuilder::new(alloc);
+        let mut bounds = BoundsBuilder::with_capacity(alloc, self.a.bounds.rows().len())?;
         self.add_rows(alloc, &mut bounds, ranges.as_slice())?;
         let bounds = built(alloc, bounds, self.a.bounds)?;
         let bounds = noted(alloc, bounds, ranges.as_slice())?;

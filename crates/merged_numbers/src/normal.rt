@@ -1,7 +1,8 @@
 //! One state in the names of its own keys.
 
-ghost use Rattle.std.specs.Prelude.{◌≡◌, ◌<◌, ◌+ℤ◌, ◌-ℤ◌, [], true, length, get_or, Some, option_map};
-ghost use Rattle.std.specs.Prelude.{IfOk, IsTrue, OnOk};
+ghost use Rattle.std.specs.Prelude.{◌≡◌, ◌<◌, ◌+ℤ◌, ◌-ℤ◌, [], true, length, get_or, Some, None, option_map};
+ghost use Rattle.std.specs.Prelude.{IfOk, IfSome, IsTrue, OnOk};
+ghost use Rattle.pentagon_domain.specs.Rows.{rows_from};
 ghost use Rattle.symbolic_values.specs.Pairing.{origin};
 ghost use Rattle.merged_numbers.specs.Known.{known};
 ghost use Rattle.merged_numbers.specs.Meaning.{AreMeasured, HaveForm, Keeps};
@@ -75,26 +76,32 @@ struct Own<'a> {
 
 impl Own<'_> {
     /// Adds the bound of the keys at two places, by the row of the first. The new ranges tell what the spans tell.
-    #[tactic(auto, using(crate::proofs::ApartLaws::pair_by_row))]
     fn add_pair(
         &self,
         bounds: &mut BoundsBuilder,
-        row: &[Option<i64>],
+        row: Option<&[Option<i64>]>,
         i: usize,
         j: usize,
     ) -> Result<(), NoMemory>
         requires ranges { Some self.now.ranges.now ≡ rule.ranges_of (own_span (known self.now.a)) self.now.keys.now }
         requires as_many { length self.now.ranges.now ≡ length self.now.keys.now }
-        requires row { IsRow row.now (known self.now.a) (get_or self.now.keys.now i origin).s }
+        requires row { IfSome row (λ row. IsRow row.now (known self.now.a) (get_or self.now.keys.now i origin).s) }
+        requires bare { row ≡ None → rows_from self.now.a.bounds.now (get_or self.now.keys.now i origin).s ≡ [] }
         requires first { i < length self.now.keys.now }
         requires second { j < length self.now.keys.now }
         ensures { OnOk result (bounds.new ≡ rule.with_gap (rule.told self.now.ranges.now i j) i j
             (own_gap (known self.now.a) (get_or self.now.keys.now i origin) (get_or self.now.keys.now j origin))
             bounds.old) }
     {
+        if i == j {
+            return Ok(());
+        }
         let from = &self.keys[i];
         let to = &self.keys[j];
         let known = self.a.known_by_row(row, from.s, to.s);
+        if known.is_none() {
+            return Ok(());
+        }
         add_gap(bounds, self.ranges, i, j, key_gap(known, from, to))
     }
 
@@ -103,12 +110,13 @@ impl Own<'_> {
     fn add_row(
         &self,
         bounds: &mut BoundsBuilder,
-        row: &[Option<i64>],
+        row: Option<&[Option<i64>]>,
         i: usize,
     ) -> Result<(), NoMemory>
         requires ranges { Some self.now.ranges.now ≡ rule.ranges_of (own_span (known self.now.a)) self.now.keys.now }
         requires as_many { length self.now.ranges.now ≡ length self.now.keys.now }
-        requires row { IsRow row.now (known self.now.a) (get_or self.now.keys.now i origin).s }
+        requires row { IfSome row (λ row. IsRow row.now (known self.now.a) (get_or self.now.keys.now i origin).s) }
+        requires bare { row ≡ None → rows_from self.now.a.bounds.now (get_or self.now.keys.now i origin).s ≡ [] }
         requires inside { i < length self.now.keys.now }
         ensures { OnOk result (bounds.new ≡ rule.row_of (own_gap (known self.now.a)) self.now.keys.now
             self.now.ranges.now i (length self.now.keys.now) bounds.old) }
@@ -133,11 +141,12 @@ impl Own<'_> {
         ensures { OnOk result (bounds.new ≡ rule.rows_of (own_gap (known self.now.a)) self.now.keys.now
             self.now.ranges.now (length self.now.keys.now) bounds.old) }
     {
-        let mut row = vec![in alloc; None; self.a.spans.len()]?;
+        let mut room = vec![in alloc; None; self.a.spans.len()]?;
         for i in 0..self.keys.len() {
-            self.a
-                .write_row(is_tight, self.keys[i].s, row.as_mut_slice());
-            self.add_row(bounds, row.as_slice(), i)?;
+            let row = self
+                .a
+                .row_from(is_tight, self.keys[i].s, room.as_mut_slice());
+            self.add_row(bounds, row, i)?;
         }
         Ok(())
     }
@@ -167,7 +176,7 @@ impl Own<'_> {
         if is_tight && self.is_kept() {
             return self.a.bounds.copy(alloc);
         }
-        let mut bounds = BoundsBuilder::new(alloc);
+        let mut bounds = BoundsBuilder::with_capacity(alloc, self.a.bounds.rows().len())?;
         self.add_rows(alloc, is_tight, &mut bounds)?;
         noted(alloc, bounds.build()?, self.ranges)
     }

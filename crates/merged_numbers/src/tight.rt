@@ -1,6 +1,7 @@
 //! Bounds that tell no more than what is stored and what the spans tell.
 
-ghost use Rattle.std.specs.Prelude.{◌≡◌, IfOk, IsTrue};
+ghost use Rattle.std.specs.Prelude.{◌≡◌, [], None, IfOk, IfSome, IsTrue};
+ghost use Rattle.pentagon_domain.specs.Rows.{rows_from};
 ghost use Rattle.merged_numbers.specs.Known.{known};
 ghost use Rattle.merged_numbers.specs.Rows as rule;
 ghost use Rattle.merged_numbers.specs.Rows.{IsRow, IsTight};
@@ -11,6 +12,9 @@ use interval_domain::Range;
 use number_spans::Span;
 use pentagon_domain::{Bounds, BoundsBuilder, Ends};
 use std::alloc::Global;
+
+/// Of fewer bounds it is not noted whether they are tight.
+const FEW: usize = 24;
 
 /// Returns whether a span lies between ends.
 fn is_between(ends: Ends, span: Span) -> bool
@@ -52,7 +56,7 @@ impl Side<'_> {
 
     /// Writes the row of a symbol. Where the state is tight, the bounds behind those of the symbol are not looked at.
     #[tactic(auto, using(crate::proofs::RowLaws::gaps_tell, crate::proofs::RowLaws::all_stored_tell))]
-    pub(crate) fn write_row(&self, is_tight: bool, s: u32, row: &mut [Option<i64>])
+    fn write_row(&self, is_tight: bool, s: u32, row: &mut [Option<i64>])
         requires { IsTrue is_tight → IsTight (known self.now) }
         ensures { IsRow row.new (known self.now) s }
     {
@@ -61,6 +65,25 @@ impl Side<'_> {
         } else {
             self.bounds.gaps_from(s, row);
         }
+    }
+
+    /// The row of a symbol, which is written where there is room for it. None where no bound goes from the symbol: then
+    /// only the symbol itself is known to lie so far.
+    pub(crate) fn row_from<'r>(
+        &self,
+        is_tight: bool,
+        s: u32,
+        room: &'r mut [Option<i64>],
+    ) -> Option<&'r [Option<i64>]>
+        requires { IsTrue is_tight → IsTight (known self.now) }
+        ensures row { IfSome result (λ row. IsRow row.now (known self.now) s) }
+        ensures bare { result ≡ None → rows_from self.now.bounds.now s ≡ [] }
+    {
+        if self.bounds.rows_from(s).is_empty() {
+            return None;
+        }
+        self.write_row(is_tight, s, room);
+        Some(room)
     }
 }
 
@@ -91,10 +114,14 @@ pub(crate) fn built(
     bounds.build()
 }
 
-/// The same bounds, for which it is noted whether they are tight over ranges.
+/// The same bounds, for which it is noted whether they are tight over ranges. Of few bounds nothing would be noted, and
+/// no ends are made.
 pub(crate) fn noted(alloc: Global, bounds: Bounds, ranges: &[Range]) -> Result<Bounds, NoMemory>
     ensures { IfOk result (λ noted. noted ≡ bounds) }
 {
+    if bounds.rows().len() < FEW {
+        return Ok(bounds);
+    }
     let ends = ends_of(alloc, ranges)?;
     bounds.noted(alloc, ends)
 }
