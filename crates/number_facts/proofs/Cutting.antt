@@ -23,9 +23,9 @@ cut_all by rows i n whole past so_far = let none : drop i rows ≡ [] = drop_all
 one_first : (by : ℤ → BoundRow → ℤ) (p : BoundRow → Bool) (row : BoundRow) (rows : List BoundRow) (n : ℤ)
     → cut_by_all by (filter p rows) (cut_by_all by (filter p (row ∷ [])) n) ≡ cut_by_all by (filter p (row ∷ rows)) n
 one_first by p row rows n = elim (cases_Bool (p row)) [
-    | inl is ↦ rw is refl
-    | inr other ↦ rw other refl
-  ]
+  | inl is ↦ rw is refl
+  | inr other ↦ rw other refl
+]
 
 more_of : (by : ℤ → BoundRow → ℤ) (p : BoundRow → Bool) (rows : List BoundRow) (i : ℕ) (n now whole : ℤ) (d : BoundRow) → i < length rows
     → now ≡ cut_by_all by (filter p (get_or rows i d ∷ [])) n → cut_by_all by (filter p (drop i rows)) n ≡ whole

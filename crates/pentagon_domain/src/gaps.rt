@@ -249,12 +249,7 @@ impl Bounds {
 
     /// A number that none of the gaps from s is below, but for those to s and to symbols to which no bound goes. It is
     /// sought where many bounds go from s: behind few, to look at all costs less.
-    fn lowest_behind(
-        &self,
-        s: u32,
-        firsts: &[BoundRow],
-        gaps: &[Option<i64>],
-    ) -> Option<i64>
+    fn lowest_behind(&self, s: u32, firsts: &[BoundRow], gaps: &[Option<i64>]) -> Option<i64>
         ensures { EachIndex gaps.now (λ t. t ≢ s → is_reached self.now t ≡ true →
             IsLow result (slice_index_or gaps.now t None)) }
     {
