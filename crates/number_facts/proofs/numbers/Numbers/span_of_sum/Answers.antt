@@ -1,4 +1,4 @@
-use Rattle.std.proofs.Common.{◌≡◌, ◌+ℤ◌, ◌-ℤ◌, Some, ap, refl, to_z, of_z, rules}
+use Rattle.std.proofs.Common.{◌≡◌, ◌+ℤ◌, ap, to_z, of_z, rules}
 use Rattle.std.specs.Int.{w128}
 use Rattle.number_spans.specs.Spans.{between}
 use Rattle.number_facts.specs.Additions.{all_above, sum_span, uppers}
