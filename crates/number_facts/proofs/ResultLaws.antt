@@ -1,15 +1,14 @@
 -- What operators give is kept, and no exact result lies beyond its ends.
-use Rattle.std.proofs.Common.{◌≡◌, ℕ, ◌==◌, ◌/◌, ◌^◌, ℤ, pos, ◌+ℤ◌, ◌-ℤ◌, ◌*ℤ◌, ◌≤ℤ◌, Bool, true, false, ◌&&◌, int_le}
+use Rattle.std.proofs.Common.{◌≡◌, ℕ, ◌==◌, ◌/◌, ◌^◌, ℤ, pos, ◌+ℤ◌, ◌-ℤ◌, ◌*ℤ◌, Bool, true, false, ◌&&◌}
 use Rattle.std.proofs.Common.{int_div, int_rem, Option, Ok, Err, refl, FitsSigned, w32, arith}
 use Rattle.std.specs.Prelude.{Result, IfOk, OnOk}
 use Rattle.std.specs.Int.{w64, int_shr}
 use Rattle.std.specs.Result.{result_ok}
 use Rattle.std.proofs.lemmas.Bool.{cond_both, and_parts}
-use Rattle.std.proofs.lemmas.Bool.Decides.{Decides-int_eq}
 use Rattle.std.proofs.lemmas.Int.{ints, clamps}
 use Rattle.domain_api.specs.declared.expr.Expr.{Expr}
 use Rattle.cc_base.specs.Wrap.{wrap32}
-use Rattle.cil_model.specs.Arithmetic.{LEAST, GREATEST, exact, operated, signed, unsigned}
+use Rattle.cil_model.specs.Arithmetic.{operated, signed, unsigned}
 use Rattle.cil_model.specs.declared.instruction.BinOp.{BinOp}
 use Rattle.cil_model.specs.declared.instruction.BinOp.TheVariants as operators
 use Rattle.cil_model.specs.declared.machine.FaultKind.{FaultKind}
@@ -19,7 +18,7 @@ use Rattle.interval_domain.specs.Laws.Ends.{near_below, near_above}
 use Rattle.symbolic_values.specs.Worth.{worth}
 use Rattle.number_spans.specs.Constants.{exact_of, is_constant}
 use Rattle.number_spans.specs.Product.{corners, is_the_constant}
-use Rattle.number_spans.specs.Spans.{Has, full, is_int32}
+use Rattle.number_spans.specs.Spans.{Has, full}
 use Rattle.number_spans.proofs.BitLaws.{common_bits_have, bits_of_either_have, bits_of_one_have}
 use Rattle.number_spans.proofs.OperatorLaws.{ok_same, divided_gives, divided_unsigned_gives, shifted_gives, exact_gives}
 use Rattle.number_spans.proofs.ConstantLaws.{exact_gives_it}
@@ -30,9 +29,8 @@ use Rattle.number_facts.specs.Arith as rule
 use Rattle.number_facts.specs.Ends.{range_of}
 use Rattle.number_facts.specs.Facts.{Facts, AreNarrow, IsNamed}
 use Rattle.number_facts.specs.Fresh.{expr_made, facts_made}
-use Rattle.number_facts.specs.Holds.{AreNamed, Holds}
 use Rattle.number_facts.specs.Laws.Allowing.{AllowsNumbers}
-use Rattle.number_facts.specs.Results.{AreInt32, AreExactEnds, IsExact, KeepsResult}
+use Rattle.number_facts.specs.Results.{AreExactEnds, IsExact, KeepsResult}
 use Rattle.number_facts.specs.declared.outcome.Outcome.{Outcome}
 use Rattle.number_facts.proofs.AdditionLaws.{sum_covers, sum_relations_true, difference_covers}
 use Rattle.number_facts.proofs.AdditionLaws.{difference_relations_true, exact_sum_has, exact_difference_has}

@@ -1,6 +1,6 @@
 -- Lists of the spans of symbols, that of symbol s at place s, while bounds cut them.
-use Rattle.std.proofs.Common.{◌≡◌, ◌≢◌, ℕ, zero, suc, ◌+◌, ◌<◌, ◌≤◌, ◌==◌, ℤ, List, [], ◌∷◌, ◌++◌, length, get_or, set, inl, inr}
-use Rattle.std.proofs.Common.{map, take, drop, sym, ap, ◌∙◌, subst, true, false, Option, None, arith, refl}
+use Rattle.std.proofs.Common.{◌≡◌, ◌≢◌, ℕ, suc, ◌+◌, ◌<◌, ◌≤◌, ◌==◌, ℤ, List, [], ◌∷◌, ◌++◌, length, get_or, set, inl, inr}
+use Rattle.std.proofs.Common.{map, take, drop, sym, ◌∙◌, subst, true, false, Option, None, arith, refl}
 use Rattle.std.proofs.lemmas.Bool.{cases_Bool, eqb-true, eqb-false, ne_eqb}
 use Rattle.std.proofs.lemmas.List.{ext_get_or, get_or_append_left, get_or_push, get_or-set_other, length-set, length-append, take-append-le, take_all, drop_all}
 use Rattle.std.proofs.lemmas.List.FromFn.{get_or-map-range_with_len, length-map-range_with_len}

@@ -1,6 +1,6 @@
 -- What is known of comparisons is so, and what they push keeps it.
 use Rattle.std.proofs.Common.{◌≡◌, ◌≢◌, ℕ, ◌+◌, ◌≤◌, ℤ, pos, Bool, true, false, ◌&&◌, ◌||◌, int_lt, int_eq, Option, Some, None, length, refl, sym, ap, ◌∙◌, ⊎_elim, FitsSigned, w32, arith}
-use Rattle.std.specs.Prelude.{◌==◌, nat_lt, Result, Ok, Err, IfOk, OnOk}
+use Rattle.std.specs.Prelude.{nat_lt, Result, Ok, Err, IfOk, OnOk}
 use Rattle.std.specs.List.{AllByRecursion}
 use Rattle.std.specs.Result.{result_ok}
 use Rattle.std.proofs.lemmas.Bool.{cond_both, and_parts, or_cases, false_from_ne_true}

@@ -1,5 +1,5 @@
 -- What is known of the numbers of a state, and what it means.
-use Rattle.std.specs.Prelude.{ℕ, zero, suc, ◌≤◌, ℤ, pos, negsuc, ◌≤ℤ◌, Bool, nat_le, length, List, get_or}
+use Rattle.std.specs.Prelude.{ℕ, zero, suc, ◌≤◌, pos, negsuc, ◌≤ℤ◌, Bool, nat_le, length, List, get_or}
 use Rattle.std.specs.List.{AllByRecursion}
 use Rattle.domain_api.specs.declared.expr.Expr.{Expr}
 use Rattle.interval_domain.specs.Interval.{Interval, one}

@@ -1,5 +1,5 @@
 -- Lists of the spans of symbols, that of symbol s at place s, while bounds cut them.
-use Rattle.std.specs.Prelude.{◌≡◌, ℕ, ◌<◌, ◌≤◌, ℤ, List, [], ◌∷◌, None, EachIndex, slice_index_or}
+use Rattle.std.specs.Prelude.{◌≡◌, ℕ, ◌<◌, ◌≤◌, List, [], ◌∷◌, None, EachIndex, slice_index_or}
 use Rattle.pentagon_domain.specs.declared.bound_row.BoundRow.{BoundRow}
 use Rattle.pentagon_domain.specs.Rows.{rows_from, rows_to}
 use Rattle.number_spans.specs.Sizes.{IsLong, IsLongHole}

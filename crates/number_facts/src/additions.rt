@@ -185,8 +185,21 @@ impl Numbers {
         Ok(())
     }
 
-    /// Where a sum lies before it wraps.
+    /// Where a sum lies before it wraps, of expressions that have these numbers.
     #[tactic(auto, using(crate::proofs::Uppers::both), unfolding(crate::specs::Additions::sum_span, crate::specs::Additions::uppers))]
+    fn span_of_sum(&self, a: Expr, r: Span, b: Expr, q: Span) -> Span
+        requires first { r ≡ range_of self.now a }
+        requires second { q ≡ range_of self.now b }
+        requires first_ends { IsSmall r }
+        requires second_ends { IsSmall q }
+        ensures value { result ≡ rule.sum_span self.now a b }
+        ensures bound { IsBounded result.lo }
+    {
+        let hi = self.cut_by(b, a, self.cut_by(a, b, plus(r.hi, q.hi)));
+        Span::between(plus(r.lo, q.lo), hi)
+    }
+
+    /// Where a sum lies before it wraps.
     pub(crate) fn sum_span(&self, a: Expr, b: Expr) -> Span
         requires first { IsThere self.now a }
         requires second { IsThere self.now b }
@@ -194,10 +207,7 @@ impl Numbers {
         ensures value { result ≡ rule.sum_span self.now a b }
         ensures bound { IsBounded result.lo }
     {
-        let r = self.small_range_of(a);
-        let q = self.small_range_of(b);
-        let hi = self.cut_by(b, a, self.cut_by(a, b, plus(r.hi, q.hi)));
-        Span::between(plus(r.lo, q.lo), hi)
+        self.span_of_sum(a, self.small_range_of(a), b, self.small_range_of(b))
     }
 
     /// The sum.
@@ -208,13 +218,15 @@ impl Numbers {
         requires narrow { AreNarrow self.now }
         ensures { result ≡ rule.sum self.now a b }
     {
-        if takes(self.small_range_of(a), b) {
+        let r = self.small_range_of(a);
+        if takes(r, b) {
             return Outcome::Is(with_constant(a, b));
         }
-        if takes(self.small_range_of(b), a) {
+        let q = self.small_range_of(b);
+        if takes(q, a) {
             return Outcome::Is(with_constant(b, a));
         }
-        Outcome::Within(settled_span(self.sum_span(a, b)))
+        Outcome::Within(settled_span(self.span_of_sum(a, r, b, q)))
     }
 
     /// What else is known of a sum.
@@ -226,12 +238,14 @@ impl Numbers {
         ensures { IfOk result (λ known. known.items ≡ rule.sum_relations self.now a b) }
     {
         let alloc = *self.ranges.allocator();
-        if !is_inside(self.sum_span(a, b)) {
+        let r = self.small_range_of(a);
+        let q = self.small_range_of(b);
+        if !is_inside(self.span_of_sum(a, r, b, q)) {
             return Ok(Vec::new(alloc));
         }
         let mut known = Vec::with_capacity(alloc, 4)?;
-        note_beside(&mut known, a, self.small_range_of(b))?;
-        note_beside(&mut known, b, self.small_range_of(a))?;
+        note_beside(&mut known, a, q)?;
+        note_beside(&mut known, b, r)?;
         self.note_above(a, b, &mut known)?;
         self.note_above(b, a, &mut known)?;
         Ok(known)

@@ -6,7 +6,8 @@ ghost use Rattle.number_spans.specs.Sizes.{IsLong, IsLongHole};
 ghost use Rattle.number_spans.specs.Spans.{full};
 ghost use Rattle.number_facts.specs.Ends as rule;
 ghost use Rattle.number_facts.specs.Ends.{span_at};
-ghost use Rattle.number_facts.specs.SpanLists.{AreLeftBy, AreSpans, HasSums, HaveSums, IsLeftBy, IsLowered, IsRaised, IsSpanOf};
+ghost use Rattle.number_facts.specs.SpanLists.{AreLeftBy, AreSpans, HasSums, HaveSums};
+ghost use Rattle.number_facts.specs.SpanLists.{IsLeftBy, IsLowered, IsRaised, IsSpanOf};
 
 use crate::ends::met;
 use crate::numbers::Numbers;

@@ -1,4 +1,4 @@
-use Rattle.std.proofs.Common.{◌≡◌, ◌++◌, drop}
+use Rattle.std.proofs.Common.{◌≡◌, drop}
 use Rattle.number_facts.specs.Additions as rule
 use Rattle.number_facts.proofs.numbers.Numbers.cut_by.Given as goal
 

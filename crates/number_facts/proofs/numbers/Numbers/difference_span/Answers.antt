@@ -1,4 +1,4 @@
-use Rattle.std.proofs.Common.{◌≡◌, ◌+ℤ◌, ◌-ℤ◌, Some, ap, refl, to_z, of_z, rules}
+use Rattle.std.proofs.Common.{◌≡◌, refl, to_z, of_z, rules}
 use Rattle.std.specs.Int.{w128}
 use Rattle.number_facts.specs.Additions.{difference_span}
 use Rattle.number_facts.proofs.numbers.Numbers.difference_span.Goals as goal
