@@ -93,7 +93,8 @@ pub trait FlowState: Lattice {
         requires lawful { lawful code.now }
         requires edge { edge < edge_count code.now }
         // It comes of a state that fits the source.
-        requires came { (first : Self) × fits code.now (source code.now edge) first × (self ≡ through first code.now (source code.now edge)) }
+        requires came { (first : Self) × fits code.now (source code.now edge) first ×
+            (self ≡ through first code.now (source code.now edge)) }
         ensures value { IfOk result (λ behind. behind ≡ leaving self code.now edge) }
         ensures ticked { Self.Gauge.count meter.new ≡ after_tick (Self.Gauge.count meter.old) };
 
