@@ -17,9 +17,11 @@ use Rattle.obligation_prover.specs.ClausesTested.{CanTest, tested_by}
 use Rattle.obligation_prover.specs.Entailed.{rules_out}
 use Rattle.obligation_prover.specs.Obligations.{obligation, obligations_of}
 use Rattle.state_facts.specs.StateFacts.{State}
+use Rattle.transfer_rules.specs.Flow.{up_to_last}
 use Rattle.transfer_rules.specs.Inductive.{HasShape, IsInductive, state_at}
 use Rattle.transfer_rules.specs.Owed.{CanDo}
 use Rattle.transfer_rules.specs.Post.{post}
+use Rattle.transfer_rules.proofs.Walking.{walk_ends, walk_goes_on}
 use Rattle.unit_flow.specs.Flow.{IsLawful}
 use Rattle.unit_flow.specs.declared.unit_flow.UnitFlow.{UnitFlow}
 use Rattle.unit_flow.proofs.LawfulCode as laws
@@ -72,6 +74,7 @@ pub record IsUnderWay (unit : MethodUnit) (is : List Instr) (before : List Verdi
     (found : List Verdict) (state : State) (k : ℕ) : Type 0 where
   pub same : found ++ verdicts_from unit (drop k is) state ≡ before ++ verdicts_from unit is first
   pub can : CanJudge unit (drop k is) state
+  pub before_last : up_to_last unit (drop k is) state ≡ up_to_last unit is first
 
 module _ (unit : MethodUnit) (is : List Instr) (before : List Verdict) (first : State) (found : List Verdict)
     (state : State) (k : ℕ) (i : Instr) (way : IsUnderWay unit is before first found state k)
@@ -94,6 +97,9 @@ module _ (unit : MethodUnit) (is : List Instr) (before : List Verdict) (first : 
   goes_on more new told made = record {
     same = rw (told, made) (one_more_passed unit is k i state found below there ∙ way.same);
     can = subst (CanJudge unit (drop (k + 1) is)) (sym made) can_from.2;
+    before_last =
+        ap (up_to_last unit (drop (k + 1) is)) made
+        ∙ (walk_goes_on unit is k i state below there ∙ way.before_last);
   }
 
 pub next : (unit : MethodUnit) (is : List Instr) (before : List Verdict) (first : State) (found : List Verdict)
@@ -126,6 +132,11 @@ module _ (unit : MethodUnit) (is : List Instr) (before : List Verdict) (first : 
       (ap (λ (js : List Instr). verdicts_at unit last state ++ verdicts_from unit js (post unit last.op state)) (sym none)
       ∙ ap (λ (js : List Instr). verdicts_from unit js state) (sym at_last))
       ∙ way.same)))
+
+pub ended_at : (unit : MethodUnit) (is : List Instr) (before : List Verdict) (first : State) (found : List Verdict)
+    (state : State) (k : ℕ) → IsUnderWay unit is before first found state k → length (prefix is) ≤ k
+    → state ≡ up_to_last unit is first
+ended_at unit is before first found state k way low = sym (walk_ends unit is k state low) ∙ way.before_last
 
 -- ---- all blocks
 

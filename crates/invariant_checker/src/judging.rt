@@ -5,8 +5,8 @@ ghost use Rattle.cil_model.specs.Limits.{MAX_CLAUSES};
 ghost use Rattle.cil_model.specs.WellFormed.{IsWellFormed};
 ghost use Rattle.obligation_prover.specs.ClausesTested.{CanTest, tested_by};
 ghost use Rattle.obligation_prover.specs.Obligations.{obligations_of};
-ghost use Rattle.transfer_rules.specs.Flow.{Fits};
-ghost use Rattle.transfer_rules.specs.Inductive.{HasShape, IsInductive};
+ghost use Rattle.transfer_rules.specs.Flow.{Fits, before_last, up_to_last};
+ghost use Rattle.transfer_rules.specs.Inductive.{AreBeforeLast, HasShape, IsInductive};
 ghost use Rattle.unit_flow.specs.Flow.{IsLawful};
 ghost use Rattle.invariant_checker.specs.Counts as counts;
 ghost use Rattle.invariant_checker.specs.Safety.{IsSafe};
@@ -21,7 +21,7 @@ use obligation_prover::{
     Tested, avoid, clause_obligation, clauses_shown, faults_of, obligations, rules_out, tested_by,
 };
 use std::alloc::Global;
-use transfer_rules::{inductive, post};
+use transfer_rules::{all_carried, are_begun, post};
 use unit_flow::UnitFlow;
 
 /// Appends a verdict for each own fault of an instruction. Each is judged where those before it are assumed not to have
@@ -136,60 +136,72 @@ fn push_verdicts(
     push_tested(alloc, found, state, unit, instr)
 }
 
-/// Appends the verdicts at the instructions of a block, from the state before the first of them.
+/// Appends the verdicts at the instructions of a block, from the state before the first of them. Answers the state
+/// before the last.
 fn judge_instrs(
     alloc: Global,
     found: &mut Vec<Verdict>,
     unit: &Unit,
     instrs: &[Instr],
     mut state: AbsState,
-) -> Result<(), NoMemory>
+) -> Result<AbsState, NoMemory>
     requires formed { IsWellFormed unit.now }
     requires ready { CanJudge unit.now instrs.now state }
-    ensures { OnOk result (found.new.items ≡ found.old.items ++ rule.verdicts_from unit.now instrs.now state) }
+    ensures found { OnOk result (found.new.items ≡ found.old.items ++ rule.verdicts_from unit.now instrs.now state) }
+    ensures before { IfOk result (λ before. before ≡ up_to_last unit.now instrs.now state) }
 {
     let [others @ .., last] = instrs else {
-        return Ok(());
+        return Ok(state);
     };
     for instr in others {
         push_verdicts(alloc, found, &state, unit, instr)?;
         state = post(alloc, state, unit, &instr.op)?;
     }
-    push_verdicts(alloc, found, &state, unit, last)
+    push_verdicts(alloc, found, &state, unit, last)?;
+    Ok(state)
 }
 
-/// Appends the verdicts in a block, from its state.
+/// Appends the verdicts in a block, from its state. Answers the state before its last instruction.
 fn judge_block(
     alloc: Global,
     found: &mut Vec<Verdict>,
     code: &UnitFlow,
     block: u32,
     state: &AbsState,
-) -> Result<(), NoMemory>
+) -> Result<AbsState, NoMemory>
     requires lawful { IsLawful code.now }
     requires there { block < length code.now.graph.blocks }
     requires fits { Fits code.now block state.now }
-    ensures { OnOk result (found.new.items ≡ found.old.items ++ rule.verdicts_of_block code.now state.now block) }
+    ensures found { OnOk result (found.new.items ≡ found.old.items ++ rule.verdicts_of_block code.now state.now block) }
+    ensures before { IfOk result (λ before. before ≡ before_last state.now code.now block) }
 {
-    let before = state.copy(alloc)?;
-    judge_instrs(alloc, found, &code.unit, code.block(block), before)
+    let begun = state.copy(alloc)?;
+    judge_instrs(alloc, found, &code.unit, code.block(block), begun)
 }
 
-/// The verdicts in all blocks, in order.
-fn judge_blocks(
-    alloc: Global,
-    code: &UnitFlow,
-    states: &[AbsState],
-) -> Result<Vec<Verdict>, NoMemory>
+/// What one walk through each block tells.
+#[derive(Drop)]
+struct Judged {
+    /// The verdicts, in the order of the code.
+    found: Vec<Verdict>,
+    /// For each block the state before its last instruction.
+    befores: Vec<AbsState>,
+}
+
+/// The verdicts in all blocks, in order, and the states before the last instructions of the blocks.
+fn judge_blocks(alloc: Global, code: &UnitFlow, states: &[AbsState]) -> Result<Judged, NoMemory>
     requires lawful { IsLawful code.now }
     requires shape { HasShape code.now states.now }
-    ensures { IfOk result (λ found. found.items ≡ rule.verdicts_by_blocks code.now states.now) }
+    ensures found { IfOk result (λ judged. judged.found.items ≡ rule.verdicts_by_blocks code.now states.now) }
+    ensures befores { IfOk result (λ judged. AreBeforeLast code.now states.now judged.befores.items) }
 {
     let mut found = Vec::new(alloc);
+    let mut befores = Vec::with_capacity(alloc, states.len())?;
     for block in 0..states.len() {
-        judge_block(alloc, &mut found, code, block as u32, &states[block])?;
+        let before = judge_block(alloc, &mut found, code, block as u32, &states[block])?;
+        befores.push(before)?;
     }
-    Ok(found)
+    Ok(Judged { found, befores })
 }
 
 /// Each obligation of a unit, unproved.
@@ -217,8 +229,12 @@ fn find_verdicts(
     requires { IsLawful code.now }
     ensures { IfOk result (λ found. found.items ≡ rule.verdicts code.now states.now) }
 {
-    if inductive(alloc, code, states)? {
-        judge_blocks(alloc, code, states)
+    if !are_begun(alloc, code, states)? {
+        return all_unproved(alloc, &code.unit);
+    }
+    let Judged { found, befores } = judge_blocks(alloc, code, states)?;
+    if all_carried(alloc, code, states, befores.as_slice())? {
+        Ok(found)
     } else {
         all_unproved(alloc, &code.unit)
     }
@@ -227,8 +243,8 @@ fn find_verdicts(
 /// Returns whether each obligation of a unit is proved by an invariant, which may have come from anywhere: where it is
 /// none of this unit, nothing is proved.
 ///
-/// Cost: that of `inductive`, and then one walk through each block, with a copy of the state at each instruction that
-/// has obligations.
+/// Cost: one walk through each block, with a copy of the state at each instruction that has obligations, and that of
+/// `all_carried`.
 pub fn judge(
     alloc: Global,
     code: &UnitFlow,

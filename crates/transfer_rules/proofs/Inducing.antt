@@ -1,6 +1,8 @@
 -- What the tests of an invariant tell.
-use Rattle.std.proofs.Common.{◌≡◌, ℕ, zero, suc, ◌+◌, ◌<◌, ◌≤◌, Bool, true, List, [], ◌∷◌, length, get_or, None, Result, refl, sym, ap, subst, ◌∙◌, arith, inl, inr}
+use Rattle.std.proofs.Common.{◌≡◌, ℕ, zero, suc, ◌+◌, ◌<◌, ◌≤◌, Bool, true, List, [], ◌∷◌, ◌++◌, length, length-append, get_or, None, Result, refl, sym, ap, subst, ◌∙◌, arith, inl, inr}
 use Rattle.std.specs.Prelude.{◌↔◌, IsTrue, IfOk}
+use Rattle.std.proofs.Math.ListN.{get_or-append}
+use Rattle.std.proofs.Math.Seq.{get_or-append_seam}
 use Rattle.std.proofs.lemmas.Bool.{cases_lt}
 use Rattle.std.proofs.lemmas.Result.{IfOk-weaker}
 use Rattle.cil_model.specs.Limits.{MAX_BLOCKS}
@@ -14,10 +16,10 @@ use Rattle.merged_states.specs.Laws.StatesHold.{leq_holds}
 use Rattle.merged_states.specs.Inclusion.{is_included}
 use Rattle.merged_states.specs.Alike.{AreLikeStates}
 use Rattle.transfer_rules.specs.Entry.{entry}
-use Rattle.transfer_rules.specs.Flow.{Fits, along_edge}
+use Rattle.transfer_rules.specs.Flow.{ComesThrough, Fits, along_edge, before_last, leaving}
 use Rattle.transfer_rules.specs.Laws.FormsMerged.{fitting_like}
 use Rattle.transfer_rules.specs.Laws.FlowLaws as laws
-use Rattle.transfer_rules.specs.Inductive.{AllCarried, HasShape, HoldsInRuns, HoldsWhereItComes, IsBegun, IsInductive, state_at}
+use Rattle.transfer_rules.specs.Inductive.{AllCarried, AreBeforeLast, AreBegun, HasShape, HoldsInRuns, HoldsWhereItComes, IsBegun, IsInductive, state_at}
 use Rattle.unit_flow.proofs.OnTheWay.{runs_go_along}
 use Rattle.unit_flow.specs.Flow.{IsLawful, edge_at, kinds_at, no_edge}
 use Rattle.unit_flow.specs.Runs.{edges_in}
@@ -66,6 +68,10 @@ module _ (code : UnitFlow) (lawful : IsLawful code) (states : List State) (shape
   edge_is : edge ≡ edge_at code k
   edge_is = ap (λ (es : List Edge). get_or es k no_edge) are
 
+  source_fits : Fits code (edge_at code k).from (state_at states (edge_at code k).from)
+  source_fits = shape.fit (edge_at code k).from
+      (subst (λ (n : ℕ). (edge_at code k).from < n) (sym shape.count) (laws.source_below code k lawful below))
+
   pub from_below : edge.from < length states
   from_below = subst (λ (e : Edge). e.from < length states) (sym edge_is) (subst (λ (n : ℕ). (edge_at code k).from < n) (sym shape.count) (laws.source_below code k lawful below))
 
@@ -79,17 +85,77 @@ module _ (code : UnitFlow) (lawful : IsLawful code) (states : List State) (shape
   to_is s is = item_is states edge.to s to_below is ∙ ap (λ (e : Edge). state_at states e.to) edge_is
 
   pub from_fits : (s : State) → s ≡ get_or states edge.from s → Fits code (edge_at code k).from s
-  from_fits s is = subst (Fits code (edge_at code k).from) (sym (from_is s is))
-      (shape.fit (edge_at code k).from (subst (λ (e : Edge). e.from < length states) edge_is from_below))
+  from_fits s is = subst (Fits code (edge_at code k).from) (sym (from_is s is)) source_fits
 
   to_fits : (s : State) → s ≡ get_or states edge.to s → Fits code (edge_at code k).to s
   to_fits s is = subst (Fits code (edge_at code k).to) (sym (to_is s is))
       (shape.fit (edge_at code k).to (subst (λ (e : Edge). e.to < length states) edge_is to_below))
 
-  pub are_alike : (s t behind : State) → s ≡ get_or states edge.from s → t ≡ get_or states edge.to t → behind ≡ along_edge s code k → AreLikeStates behind t
-  are_alike s t behind from to is =
+  pub are_alike : (t behind : State) → t ≡ get_or states edge.to t
+      → behind ≡ along_edge (state_at states (edge_at code k).from) code k → AreLikeStates behind t
+  are_alike t behind to is =
+      let source : State = state_at states (edge_at code k).from in
       fitting_like code.unit (kinds_at code (edge_at code k).to) behind t
-      (subst (Fits code (edge_at code k).to) (sym is) (laws.along_fits code k s lawful below (from_fits s from))) (to_fits t to)
+      (subst (Fits code (edge_at code k).to) (sym is) (laws.along_fits code k source lawful below source_fits))
+      (to_fits t to)
+
+  -- ---- from the state before the last instruction of its source
+
+  module _ (befores : List State) (before_each : AreBeforeLast code states befores) where
+    pub before_below : edge.from < length befores
+    before_below = subst (λ (n : ℕ). edge.from < n) (sym before_each.count) from_below
+
+    pub before_is : (s : State) → s ≡ get_or befores edge.from s
+        → s ≡ before_last (state_at states (edge_at code k).from) code (edge_at code k).from
+    before_is s is =
+        item_is befores edge.from s before_below is
+        ∙ (ap (λ (e : Edge). state_at befores e.from) edge_is
+        ∙ before_each.each (edge_at code k).from (subst (λ (e : Edge). e.from < length states) edge_is from_below))
+
+    pub comes_through : (s again : State) → s ≡ get_or befores edge.from s → again ≡ s
+        → ComesThrough code (edge_at code k).from again
+    comes_through s again is same = (state_at states (edge_at code k).from, source_fits, same ∙ before_is s is)
+
+    pub behind_is : (s again behind : State) → s ≡ get_or befores edge.from s → again ≡ s
+        → behind ≡ leaving again code k → behind ≡ along_edge (state_at states (edge_at code k).from) code k
+    behind_is s again behind is same left =
+        left ∙ (ap (λ (a : State). leaving a code k) (same ∙ before_is s is)
+        ∙ sym (laws.along_is code k (state_at states (edge_at code k).from)))
+
+-- ---- the states before the last instructions of the first blocks
+
+pub record AreBeforeUpTo (code : UnitFlow) (states : List State) (n : ℕ) (befores : List State) : Type 0 where
+  pub count : length befores ≡ n
+  pub each : (block : ℕ) → block < n → state_at befores block ≡ before_last (state_at states block) code block
+
+pub before_none : (code : UnitFlow) (states befores : List State) → befores ≡ [] → AreBeforeUpTo code states 0 befores
+before_none code states befores none = record { count = ap length none; each = λ block below. absurd (omega arith) }
+
+pub before_more : (code : UnitFlow) (states : List State) (n : ℕ) (befores more : List State) (state before : State)
+    → AreBeforeUpTo code states n befores → n < length states → state ≡ get_or states n state
+    → before ≡ before_last state code n → more ≡ befores ++ before ∷ [] → AreBeforeUpTo code states (n + 1) more
+before_more code states n befores more state before so_far below there is pushed =
+    let one = λ (k : ℕ). state_at (befores ++ before ∷ []) k ≡ before_last (state_at states k) code k in
+    subst (AreBeforeUpTo code states (n + 1)) (sym pushed) (record {
+      count = length-append befores (before ∷ []) ∙ ap (λ (k : ℕ). k + 1) so_far.count;
+      each = one_more one n
+          (λ k h. get_or-append befores (before ∷ []) None k (subst (λ (m : ℕ). k < m) (sym so_far.count) h)
+          ∙ so_far.each k h)
+          (subst (λ (k : ℕ). state_at (befores ++ before ∷ []) k ≡ before) so_far.count
+          (get_or-append_seam befores before [] None)
+          ∙ (is ∙ ap (λ (s : State). before_last s code n) (item_is states n state below there)));
+    })
+
+pub before_all : (code : UnitFlow) (states : List State) (n : ℕ) (befores : List State) → length states ≤ n
+    → n ≤ length states → AreBeforeUpTo code states n befores → AreBeforeLast code states befores
+before_all code states n befores least most so_far =
+    let all : n ≡ length states = omega (arith, least, most) in
+    record {
+      count = so_far.count ∙ all;
+      each = λ block below. so_far.each block (omega (arith, below, all));
+    }
+
+pub ruleset before_blocks = (before_none, before_more, before_all)
 
 -- ---- the first block
 
@@ -102,12 +168,22 @@ module _ (code : UnitFlow) (lawful : IsLawful code) (states : List State) (shape
       fitting_like code.unit (kinds_at code 0) s first (subst (Fits code 0) (sym is) (laws.entry_fits code lawful))
       (subst (Fits code 0) (sym (item_is states 0 first first_there there)) (shape.fit 0 first_there))
 
--- what is left to show where the shape is right and the first state is included
-pub inductive_where : {E : Type 0} (r : Result Bool E) (code : UnitFlow) (states : List State) → HasShape code states → IsBegun code states
+-- what is left to show where the shape is right
+pub begun_where : {E : Type 0} (r : Result Bool E) (code : UnitFlow) (states : List State) → HasShape code states
+    → IfOk r (λ yes. IsTrue yes ↔ IsBegun code states) → IfOk r (λ yes. IsTrue yes ↔ AreBegun code states)
+begun_where r code states shape answer =
+    IfOk-weaker r _ (λ yes. IsTrue yes ↔ AreBegun code states)
+    (λ yes is. (λ e. record { shape = shape; begun = is.0 e }, λ begun. is.1 begun.begun)) answer
+
+-- and where the first state is included too
+pub inductive_where : {E : Type 0} (r : Result Bool E) (code : UnitFlow) (states : List State) → AreBegun code states
     → IfOk r (λ yes. IsTrue yes ↔ AllCarried code states) → IfOk r (λ yes. IsTrue yes ↔ IsInductive code states)
-inductive_where r code states shape begun answer =
+inductive_where r code states are answer =
     IfOk-weaker r _ (λ yes. IsTrue yes ↔ IsInductive code states)
-    (λ yes is. (λ e. record { shape = shape; begun = begun; edges = is.0 e }, λ inductive. is.1 inductive.edges)) answer
+    (λ yes is. (
+      λ e. record { shape = are.shape; begun = are.begun; edges = is.0 e },
+      λ inductive. is.1 inductive.edges,
+    )) answer
 
 -- ---- what an invariant is for
 

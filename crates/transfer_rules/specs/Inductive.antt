@@ -5,7 +5,7 @@ use Rattle.merged_states.specs.Inclusion.{is_included}
 use Rattle.state_facts.specs.Holds.{HoldsAt}
 use Rattle.state_facts.specs.StateFacts.{State}
 use Rattle.transfer_rules.specs.Entry.{entry}
-use Rattle.transfer_rules.specs.Flow.{Fits, along_edge}
+use Rattle.transfer_rules.specs.Flow.{Fits, along_edge, before_last}
 use Rattle.unit_flow.specs.Flow.{edge_at}
 use Rattle.unit_flow.specs.Runs.{ComesTo, IsReachedAt}
 use Rattle.unit_flow.specs.declared.unit_flow.UnitFlow.{UnitFlow}
@@ -35,6 +35,17 @@ AllCarried code states = (edge : ℕ) → edge < length code.graph.edges → IsC
 -- The state where the unit begins is included in that of the first block.
 abbrev pub IsBegun : UnitFlow → List State → Type 0
 IsBegun code states = is_included (entry code.unit) (state_at states 0) ≡ true
+
+-- The states have the shape, and what is included is that at the entry.
+pub record AreBegun (code : UnitFlow) (states : List State) : Type 0 where
+  pub shape : HasShape code states
+  pub begun : IsBegun code states
+
+-- For each block the state before its last instruction, from its state.
+pub record AreBeforeLast (code : UnitFlow) (states befores : List State) : Type 0 where
+  pub count : length befores ≡ length states
+  pub each : (block : ℕ) → block < length states
+      → state_at befores block ≡ before_last (state_at states block) code block
 
 -- The states have the shape, and what is included is that at the entry and along each edge.
 pub record IsInductive (code : UnitFlow) (states : List State) : Type 0 where

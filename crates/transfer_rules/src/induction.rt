@@ -1,12 +1,12 @@
 //! Whether states, one for each block, are an invariant.
 
 ghost use Rattle.std.specs.Prelude.{◌≡◌, ◌<◌, ◌↔◌, length, IfOk, IsTrue};
-ghost use Rattle.transfer_rules.specs.Inductive.{AllCarried, AllFit, HasShape, HoldsInRuns, HoldsWhereItComes, IsBegun, IsCarried, IsInductive};
+ghost use Rattle.transfer_rules.specs.Inductive.{AllCarried, AllFit, AreBeforeLast, AreBegun, HasShape, HoldsInRuns, HoldsWhereItComes, IsBegun, IsCarried, IsInductive};
 ghost use Rattle.unit_flow.specs.Flow.{IsLawful};
 
 use crate::entry::entry_state;
 use crate::forms::fits;
-use crate::walks::along_edge;
+use crate::walks::{before_last, leave};
 use abs_state::AbsState;
 use domain_api::{Lattice, NoMemory};
 use std::alloc::Global;
@@ -37,35 +37,66 @@ pub fn has_shape(code: &UnitFlow, states: &[AbsState]) -> bool
     states.len() == code.graph.blocks.as_slice().len() && all_fit(code, states)
 }
 
-/// Returns whether the state along an edge from that of its source is included in that of its target.
+/// Returns whether the state along an edge, from the one before the last instruction of its source, is included in that
+/// of its target.
 fn is_carried(
     alloc: Global,
     code: &UnitFlow,
     states: &[AbsState],
+    befores: &[AbsState],
     edge: usize,
 ) -> Result<bool, NoMemory>
     requires lawful { IsLawful code.now }
     requires shape { HasShape code.now states.now }
+    requires befores { AreBeforeLast code.now states.now befores.now }
     requires edge { edge < length code.now.graph.edges }
     ensures { IfOk result (λ yes. IsTrue yes ↔ IsCarried code.now states.now edge) }
 {
     let way = code.graph.edges.as_slice()[edge];
-    let behind = along_edge(alloc, &states[way.from as usize], code, edge)?;
+    let before = befores[way.from as usize].copy(alloc)?;
+    let behind = leave(alloc, before, code, edge)?;
     behind.leq(alloc, &states[way.to as usize])
 }
 
-/// Returns whether that is so of each edge.
-fn all_carried(alloc: Global, code: &UnitFlow, states: &[AbsState]) -> Result<bool, NoMemory>
+/// Returns whether the state along each edge from that of its source is included in that of its target. `befores` has
+/// for each block the state before its last instruction, from its state.
+///
+/// Cost: one rule and one normal form for each edge, up to the first that is not included.
+pub fn all_carried(
+    alloc: Global,
+    code: &UnitFlow,
+    states: &[AbsState],
+    befores: &[AbsState],
+) -> Result<bool, NoMemory>
     requires lawful { IsLawful code.now }
     requires shape { HasShape code.now states.now }
+    requires befores { AreBeforeLast code.now states.now befores.now }
     ensures { IfOk result (λ yes. IsTrue yes ↔ AllCarried code.now states.now) }
 {
     for edge in 0..code.graph.edges.as_slice().len() {
-        if !is_carried(alloc, code, states, edge)? {
+        if !is_carried(alloc, code, states, befores, edge)? {
             return Ok(false);
         }
     }
     Ok(true)
+}
+
+/// The state before the last instruction of each block, from its state.
+#[tactic(auto, using(crate::proofs::Inducing::few_blocks))]
+fn all_before_last(
+    alloc: Global,
+    code: &UnitFlow,
+    states: &[AbsState],
+) -> Result<Vec<AbsState>, NoMemory>
+    requires lawful { IsLawful code.now }
+    requires shape { HasShape code.now states.now }
+    ensures { IfOk result (λ befores. AreBeforeLast code.now states.now befores.items) }
+{
+    let mut befores = Vec::with_capacity(alloc, states.len())?;
+    for block in 0..states.len() {
+        befores.push(before_last(alloc, &states[block], code, block as u32)?)?;
+    }
+    Ok(befores)
 }
 
 /// Returns whether the state where the unit begins is included in that of the first block.
@@ -79,24 +110,34 @@ fn is_begun(alloc: Global, code: &UnitFlow, states: &[AbsState]) -> Result<bool,
     entry.leq(alloc, first)
 }
 
+/// Returns whether the states have the shape of the unit, and the state where it begins is included in that of the
+/// first block.
+pub fn are_begun(alloc: Global, code: &UnitFlow, states: &[AbsState]) -> Result<bool, NoMemory>
+    requires lawful { IsLawful code.now }
+    ensures { IfOk result (λ yes. IsTrue yes ↔ AreBegun code.now states.now) }
+{
+    if !has_shape(code, states) {
+        return Ok(false);
+    }
+    is_begun(alloc, code, states)
+}
+
 /// Returns whether the states are an invariant of the unit.
 fn is_inductive(alloc: Global, code: &UnitFlow, states: &[AbsState]) -> Result<bool, NoMemory>
     requires lawful { IsLawful code.now }
     ensures exact { IfOk result (λ yes. IsTrue yes ↔ IsInductive code.now states.now) }
 {
-    if !has_shape(code, states) {
+    if !are_begun(alloc, code, states)? {
         return Ok(false);
     }
-    if !is_begun(alloc, code, states)? {
-        return Ok(false);
-    }
-    all_carried(alloc, code, states)
+    let befores = all_before_last(alloc, code, states)?;
+    all_carried(alloc, code, states, befores.as_slice())
 }
 
 /// Returns whether the states are an invariant of the unit: they have its shape, the state where it begins is included
 /// in that of the first block, and the state along each edge in that of its target.
 ///
-/// Cost: one walk through the source of each edge, up to the first edge that shows that they are none.
+/// Cost: one walk through each block, and what `all_carried` costs.
 pub fn inductive(alloc: Global, code: &UnitFlow, states: &[AbsState]) -> Result<bool, NoMemory>
     requires lawful { IsLawful code.now }
     ensures exact { IfOk result (λ yes. IsTrue yes ↔ IsInductive code.now states.now) }

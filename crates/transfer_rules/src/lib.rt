@@ -20,7 +20,7 @@ mod unknown_states;
 mod walks;
 
 pub use entry::entry_state;
-pub use induction::{has_shape, inductive};
+pub use induction::{all_carried, are_begun, has_shape, inductive};
 pub use rules::{along, post};
 pub use unit_state::UnitState;
 pub use unknown_states::unknown;

@@ -8,7 +8,7 @@ ghost use Rattle.merged_states.specs.Merging as states;
 ghost use Rattle.merged_states.specs.Laws.StatesHold as laws;
 ghost use Rattle.state_facts.specs.Holds.{HoldsAt};
 ghost use Rattle.transfer_rules.specs.Entry.{entry};
-ghost use Rattle.transfer_rules.specs.Flow.{Fits, along_edge};
+ghost use Rattle.transfer_rules.specs.Flow.{Fits, along_edge, before_last, leaving};
 ghost use Rattle.transfer_rules.specs.Laws.FlowLaws as flow;
 ghost use Rattle.transfer_rules.specs.Laws.FormsMerged as merged;
 ghost use Rattle.transfer_rules.specs.Laws.StateEquality as equality;
@@ -18,7 +18,7 @@ ghost use Rattle.unit_flow.specs.Flow.{Begins, GoesAlong, IsLawful, edge_at, kin
 
 use crate::entry::entry_state;
 use crate::unknown_states::unknown;
-use crate::walks::along_edge;
+use crate::walks::{along_edge, before_last, leave};
 use abs_state::AbsState;
 use domain_api::{FlowState, Lattice, Meter, NoMemory, Ticks};
 use machine_points::Point;
@@ -94,6 +94,10 @@ impl FlowState for UnitState {
 
     ghost along = { λ a code edge. record { state = along_edge a.state code edge } };
 
+    ghost through = { λ a code block. record { state = before_last a.state code block } };
+
+    ghost leaving = { λ a code edge. record { state = leaving a.state code edge } };
+
     ghost entry = { λ code. record { state = entry code.unit } };
 
     ghost unknown = { λ code block. record { state = unknown code block } };
@@ -112,6 +116,30 @@ impl FlowState for UnitState {
         meter.tick();
         Ok(UnitState {
             state: along_edge(alloc, &self.state, code, edge as usize)?,
+        })
+    }
+
+    fn before_last(
+        &self,
+        alloc: Global,
+        code: &UnitFlow,
+        block: u32,
+    ) -> Result<UnitState, NoMemory> {
+        Ok(UnitState {
+            state: before_last(alloc, &self.state, code, block)?,
+        })
+    }
+
+    fn leave(
+        self,
+        alloc: Global,
+        code: &UnitFlow,
+        edge: u32,
+        meter: &mut Ticks,
+    ) -> Result<UnitState, NoMemory> {
+        meter.tick();
+        Ok(UnitState {
+            state: leave(alloc, self.state, code, edge as usize)?,
         })
     }
 
@@ -159,6 +187,9 @@ impl FlowState for UnitState {
     ghost join_fits = { λ code block a b lawful first second. merged.join_fits code.unit (kinds_at code block) a.state b.state first second };
 
     ghost widen_fits = { λ code block a b lawful first second. merged.widen_fits code.unit (kinds_at code block) a.state b.state first second };
+
+    ghost along_is = { λ code edge a lawful below.
+        ap (λ state. record { state = state }) (flow.along_is code edge a.state) };
 
     ghost along_fits = { λ code edge a lawful below fits. flow.along_fits code edge a.state lawful below fits };
 

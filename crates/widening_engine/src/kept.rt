@@ -298,7 +298,8 @@ impl<S: FlowState + Drop> Kept<S> {
         }
     }
 
-    /// The state before the last instruction of a block: the one that was kept, or else walked to from the block's state.
+    /// The state before the last instruction of a block: the one that was kept, or else walked to from the state of the
+    /// block.
     fn before_last(
         &self,
         alloc: Global,

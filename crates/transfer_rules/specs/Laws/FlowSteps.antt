@@ -39,11 +39,12 @@ use Rattle.transfer_rules.specs.Laws.Ready.{avoided_ready, chosen_ready}
 use Rattle.transfer_rules.specs.Laws.ReturnForms.{fits_return, none_returns}
 use Rattle.transfer_rules.specs.Laws.StackSizes.{within_stack}
 use Rattle.transfer_rules.specs.Laws.StepsHold.{AreFormed, along_keeps}
-use Rattle.unit_flow.specs.Chains.{IsLeft, IsPassed, IsWay}
+use Rattle.unit_flow.specs.Chains.{IsChain, IsLeft, IsPassed, IsWay}
 use Rattle.unit_flow.specs.Flow.{GoesAlong, IsLawful, block_instrs, edge_at, kinds_at, start_of}
 use Rattle.unit_flow.specs.declared.unit_flow.UnitFlow.{UnitFlow}
+use Rattle.unit_flow.proofs.BlockChains.{block_chain}
 use Rattle.unit_flow.proofs.KindsAlong.{left_along, operand, passed_along, typed_at}
-use Rattle.unit_flow.proofs.LawfulCode.{decoded, way}
+use Rattle.unit_flow.proofs.LawfulCode.{decoded, joins, way}
 
 -- ---- one instruction
 
@@ -204,15 +205,15 @@ module _ (code : UnitFlow) (lawful : IsLawful code) where
           fits_ready unit i.op stack typed.after (Some known) lawful.formed (within_at at stack is) typed.typed
           fits
 
-  pub through_ready : (is : List Instr) (at number target : ℕ) (state : State) → IsWay unit at number target is
+  pub chain_ready : (block : ℕ) (is : List Instr) (at : ℕ) (state : State) → IsChain unit code.graph block at is
       → FitsStack unit (before at) state → AreReady unit is state
-  through_ready [] at number target state way fits = absurd way
-  through_ready (i ∷ []) at number target state left fits = (post_ready i at state left.here left.found fits, tt)
-  through_ready (i ∷ j ∷ is) at number target state way fits = (
-    post_ready i at state way.0.here way.0.found fits,
-    through_ready (j ∷ is) (i.at + i.size) number target (post unit i.op state) way.1
-        (post_fits i at state way.0 fits),
-  )
+  chain_ready block [] at state chain fits = elim chain [ ]
+  chain_ready block (i ∷ []) at state last fits = (post_ready i at state last.here last.found fits, tt)
+  chain_ready block (i ∷ j ∷ is) at state chain fits =
+      let passed = chain.0.passed in (
+        post_ready i at state passed.here passed.found fits,
+        chain_ready block (j ∷ is) (i.at + i.size) (post unit i.op state) chain.1 (post_fits i at state passed fits),
+      )
 
   pub through_fits : (is : List Instr) (at number target : ℕ) (state : State) → IsWay unit at number target is
       → FitsStack unit (before at) state → FitsStack unit (before target) (through unit number is state)
@@ -246,13 +247,12 @@ block_fits code edge state lawful below fits =
     (edge_at code edge).number (start_of code (edge_at code edge).to) state
     (way code lawful edge below) fits
 
--- The rules of the block that an edge leaves may be asked.
-pub block_ready : (code : UnitFlow) (edge : ℕ) (state : State) → IsLawful code → edge < length code.graph.edges
-    → Fits code (edge_at code edge).from state → AreReady code.unit (block_instrs code (edge_at code edge).from) state
-block_ready code edge state lawful below fits =
-    through_ready code lawful (block_instrs code (edge_at code edge).from) (start_of code (edge_at code edge).from)
-    (edge_at code edge).number (start_of code (edge_at code edge).to) state
-    (way code lawful edge below) fits
+-- The rules of a block may be asked.
+pub block_ready : (code : UnitFlow) (block : ℕ) (state : State) → IsLawful code → block < length code.graph.blocks
+    → Fits code block state → AreReady code.unit (block_instrs code block) state
+block_ready code block state lawful below fits =
+    chain_ready code lawful block (block_instrs code block) (start_of code block) state
+    (block_chain code lawful block below) fits
 
 -- A state that fits the start of an edge's source fits, carried along, the start of its target.
 pub along_fits : (code : UnitFlow) (edge : ℕ) (state : State) → IsLawful code → edge < length code.graph.edges
@@ -272,4 +272,4 @@ along_holds code edge state p q lawful below fits holds goes =
     (through_formed code lawful (block_instrs code (edge_at code edge).from) (start_of code (edge_at code edge).from)
     (edge_at code edge).number (start_of code (edge_at code edge).to) state
     (way code lawful edge below) fits)
-    (block_ready code edge state lawful below fits) goes holds
+    (block_ready code (edge_at code edge).from state lawful (joins code lawful edge below).from fits) goes holds
