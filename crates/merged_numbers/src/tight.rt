@@ -1,6 +1,7 @@
 //! Bounds that tell no more than what is stored and what the spans tell.
 
-ghost use Rattle.std.specs.Prelude.{◌≡◌, [], None, IfOk, IfSome, IsTrue};
+ghost use Rattle.std.specs.Prelude.{◌≡◌, ◌==◌, not, [], None, IfOk, IfSome, IsTrue};
+ghost use Rattle.std.specs.List.{list_all};
 ghost use Rattle.pentagon_domain.specs.Rows.{rows_from};
 ghost use Rattle.merged_numbers.specs.Known.{known};
 ghost use Rattle.merged_numbers.specs.Rows as rule;
@@ -10,11 +11,18 @@ use crate::side::Side;
 use domain_api::NoMemory;
 use interval_domain::Range;
 use number_spans::Span;
-use pentagon_domain::{Bounds, BoundsBuilder, Ends};
+use pentagon_domain::{BoundRow, Bounds, BoundsBuilder, Ends};
 use std::alloc::Global;
 
-/// Of fewer bounds it is not noted whether they are tight.
+/// Of fewer bounds it is not noted whether they are tight, and no search among them is worth its cost.
 const FEW: usize = 24;
+
+/// Returns whether none of these bounds goes from a symbol.
+fn go_from_others(rows: &[BoundRow], s: u32) -> bool
+    ensures { result ≡ list_all (λ row. not (row.s == s)) rows.now }
+{
+    rows.iter().all(|row| row.s != s)
+}
 
 /// Returns whether a span lies between ends.
 fn is_between(ends: Ends, span: Span) -> bool
@@ -67,6 +75,18 @@ impl Side<'_> {
         }
     }
 
+    /// Returns whether no bound goes from a symbol. Few bounds are looked through.
+    fn is_bare(&self, s: u32) -> bool
+        ensures { IsTrue result → rows_from self.now.bounds.now s ≡ [] }
+    {
+        let rows = self.bounds.rows();
+        if rows.len() < FEW {
+            go_from_others(rows, s)
+        } else {
+            self.bounds.rows_from(s).is_empty()
+        }
+    }
+
     /// The row of a symbol, which is written where there is room for it. None where no bound goes from the symbol: then
     /// only the symbol itself is known to lie so far.
     pub(crate) fn row_from<'r>(
@@ -79,7 +99,7 @@ impl Side<'_> {
         ensures row { IfSome result (λ row. IsRow row.now (known self.now) s) }
         ensures bare { result ≡ None → rows_from self.now.bounds.now s ≡ [] }
     {
-        if self.bounds.rows_from(s).is_empty() {
+        if self.is_bare(s) {
             return None;
         }
         self.write_row(is_tight, s, room);
