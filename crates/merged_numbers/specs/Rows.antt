@@ -1,7 +1,9 @@
 -- Gaps that are written for each symbol, and what they tell beside the spans.
-use Rattle.std.specs.Prelude.{◌≡◌, ◌≢◌, ℕ, ℤ, pos, Bool, true, false, ◌&&◌, int_le, List, [], ◌∷◌, slice_index_or, EachIndex, Option, Some, None}
+use Rattle.std.specs.Prelude.{◌≡◌, ◌≢◌, ℕ, ◌==◌, ℤ, pos, Bool, true, false, not, ◌&&◌, ◌||◌, int_le, List, [], ◌∷◌, slice_index_or, EachIndex, Option, Some, None}
+use Rattle.std.specs.List.{list_all}
 use Rattle.domain_api.specs.Order.{greater_gap}
 use Rattle.number_spans.specs.declared.span.Span.{Span}
+use Rattle.pentagon_domain.specs.declared.bound_row.BoundRow.{BoundRow}
 use Rattle.pentagon_domain.specs.declared.ends.Ends.{Ends}
 use Rattle.pentagon_domain.specs.Gaps.{cut, direct_gap}
 use Rattle.merged_numbers.specs.Known.{Known, between, gap}
@@ -23,6 +25,20 @@ IsRow row side s = EachIndex row (λ t. Tells side s t (slice_index_or row t Non
 -- Beside the spans what is stored of two symbols tells all that is known of them.
 pub record IsTight (side : Known) : Type 0 where
   pub stored : (s t : ℕ) → s ≢ t → beside (direct_gap side.bounds s t) (between side s t) ≡ gap side s t
+
+-- Beside the spans what is stored tells all that is known from a symbol.
+pub record IsTightFrom (side : Known) (s : ℕ) : Type 0 where
+  pub stored : (t : ℕ) → s ≢ t → beside (direct_gap side.bounds s t) (between side s t) ≡ gap side s t
+
+-- ---- bounds that go back
+
+-- Each bound from a symbol goes to s.
+abbrev pub lead_back : List BoundRow → ℕ → ℕ → Bool
+lead_back rows s t = list_all (λ next. not (next.s == t) || next.t == s) rows
+
+-- Each bound behind one from s goes back to s.
+abbrev pub goes_back : List BoundRow → ℕ → BoundRow → Bool
+goes_back rows s row = not (row.s == s) || lead_back rows s row.t
 
 -- ---- spans between ends
 

@@ -5,7 +5,7 @@ ghost use Rattle.std.specs.List.{list_all};
 ghost use Rattle.pentagon_domain.specs.Rows.{rows_from};
 ghost use Rattle.merged_numbers.specs.Known.{known};
 ghost use Rattle.merged_numbers.specs.Rows as rule;
-ghost use Rattle.merged_numbers.specs.Rows.{IsRow, IsTight};
+ghost use Rattle.merged_numbers.specs.Rows.{IsRow, IsTight, IsTightFrom};
 
 use crate::side::Side;
 use domain_api::NoMemory;
@@ -47,6 +47,27 @@ fn are_between(ends: &[Ends], spans: &[Span]) -> bool
     true
 }
 
+/// Returns whether each bound that goes from the second symbol goes to the first.
+fn lead_back(rows: &[BoundRow], s: u32, t: u32) -> bool
+    ensures { result ≡ rule.lead_back rows.now s t }
+{
+    rows.iter().all(|row| row.s != t || row.t == s)
+}
+
+/// Returns whether each bound behind one from a symbol goes back to it.
+fn goes_back(rows: &[BoundRow], s: u32, row: &BoundRow) -> bool
+    ensures { result ≡ rule.goes_back rows.now s row.now }
+{
+    row.s != s || lead_back(rows, s, row.t)
+}
+
+/// Returns whether this is so of all bounds.
+fn go_back(rows: &[BoundRow], s: u32) -> bool
+    ensures { result ≡ list_all (rule.goes_back rows.now s) rows.now }
+{
+    rows.iter().all(|row| goes_back(rows, s, row))
+}
+
 impl Side<'_> {
     /// Returns whether beside the spans what is stored tells all that is known. It costs one pass over the spans.
     #[tactic(auto, using(crate::proofs::TightLaws::nothing_tight, crate::proofs::TightLaws::over_tight))]
@@ -65,7 +86,7 @@ impl Side<'_> {
     /// Writes the row of a symbol. Where the state is tight, the bounds behind those of the symbol are not looked at.
     #[tactic(auto, using(crate::proofs::RowLaws::gaps_tell, crate::proofs::RowLaws::all_stored_tell))]
     fn write_row(&self, is_tight: bool, s: u32, row: &mut [Option<i64>])
-        requires { IsTrue is_tight → IsTight (known self.now) }
+        requires { IsTrue is_tight → IsTightFrom (known self.now) s }
         ensures { IsRow row.new (known self.now) s }
     {
         if is_tight {
@@ -87,6 +108,17 @@ impl Side<'_> {
         }
     }
 
+    /// Returns whether the bounds are few, and those behind the bounds from a symbol are seen to go back to it alone.
+    fn all_go_back(&self, s: u32) -> bool
+        ensures { IsTrue result → IsTightFrom (known self.now) s }
+    {
+        let rows = self.bounds.rows();
+        if FEW <= rows.len() {
+            return false;
+        }
+        go_back(rows, s)
+    }
+
     /// The row of a symbol, which is written where there is room for it. None where no bound goes from the symbol: then
     /// only the symbol itself is known to lie so far.
     pub(crate) fn row_from<'r>(
@@ -102,7 +134,7 @@ impl Side<'_> {
         if self.is_bare(s) {
             return None;
         }
-        self.write_row(is_tight, s, room);
+        self.write_row(is_tight || self.all_go_back(s), s, room);
         Some(room)
     }
 }
