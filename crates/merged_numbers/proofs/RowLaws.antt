@@ -1,22 +1,21 @@
 -- Gaps that are read from a row.
-use Rattle.std.proofs.Common.{◌≡◌, ◌≢◌, ℕ, zero, suc, ◌+◌, ◌<◌, ◌≤◌, ◌==◌, ℤ, pos, true, false, not, ◌||◌, List, [], ◌∷◌, length, get_or, Option, Some, None, refl, sym, ap, subst, ◌∙◌, add-one, inl, inr, arith}
+use Rattle.std.proofs.Common.{◌≡◌, ◌≢◌, ℕ, zero, suc, ◌+◌, ◌<◌, ◌≤◌, ◌==◌, ℤ, pos, true, false, not, List, [], ◌∷◌, length, get_or, Option, Some, None, refl, sym, ap, subst, ◌∙◌, add-one, inl, inr, arith}
 use Rattle.std.specs.List.{list_all}
-use Rattle.std.proofs.lemmas.Bool.{and_parts, cases_Bool, eqb-true, ne_eqb}
+use Rattle.std.proofs.lemmas.Bool.{and_parts, cases_Bool}
 use Rattle.std.specs.Prelude.{EachIndex, if◌then◌else◌}
 use Rattle.interval_domain.specs.Interval.{Interval}
 use Rattle.pentagon_domain.specs.Gaps as by_bounds
-use Rattle.pentagon_domain.specs.Rows.{rows_from, stored}
+use Rattle.pentagon_domain.specs.Rows.{rows_from}
 use Rattle.symbolic_values.specs.declared.pairs.Key.{Key}
 use Rattle.symbolic_values.specs.Pairing.{origin}
 use Rattle.merged_numbers.specs.Merging.{steps, told, with_gap, row_of, rows_of}
 use Rattle.pentagon_domain.specs.declared.bound_row.BoundRow.{BoundRow}
 use Rattle.pentagon_domain.specs.Gaps.{direct_gap}
-use Rattle.pentagon_domain.proofs.Cuts.{greater_gap-none}
 use Rattle.pentagon_domain.proofs.Reaches.{gap_same, gap_with_apart, gap_with_same}
 use Rattle.pentagon_domain.proofs.TightGaps.{direct_same}
 use Rattle.merged_numbers.specs.Known as side_rule
 use Rattle.merged_numbers.specs.Known.{Known, gap_or, between}
-use Rattle.merged_numbers.specs.Rows.{IsRow, IsTight, IsTightFrom, Tells, beside, goes_back, lead_back}
+use Rattle.merged_numbers.specs.Rows.{IsRow, IsTight, Tells, beside}
 
 or_same : (bounds : List BoundRow) (apart : Option ℤ) (s t : ℕ) → s ≡ t → Some (pos 0) ≡ gap_or bounds apart s t
 or_same bounds None s t same = sym (gap_same bounds s t same)
@@ -64,60 +63,15 @@ pub gaps_tell : (side : Known) (s : ℕ) (row : List (Option ℤ)) → EachIndex
 gaps_tell side s row are = λ t inside. gap_tells side s t (get_or row t None) (are t inside)
 
 -- What is stored does, where the state is tight.
-tight_from : (side : Known) (s : ℕ) → IsTight side → IsTightFrom side s
-tight_from side s tight = record { stored = λ t other. tight.stored s t other }
-
-from_tells : (side : Known) (s t : ℕ) (known : Option ℤ) → IsTightFrom side s → known ≡ direct_gap side.bounds s t → Tells side s t known
-from_tells side s t known tight is = record {
-  itself = λ same. is ∙ direct_same side.bounds s t same;
-  others = λ other. ap (λ k. beside k (between side s t)) is ∙ tight.stored t other;
-}
-
 pub stored_tells : (side : Known) (s t : ℕ) (known : Option ℤ) → IsTight side → known ≡ direct_gap side.bounds s t → Tells side s t known
-stored_tells side s t known tight is = from_tells side s t known (tight_from side s tight) is
-
-pub all_stored_tell : (side : Known) (s : ℕ) (row : List (Option ℤ)) → IsTightFrom side s
-    → EachIndex row (λ t. get_or row t None ≡ direct_gap side.bounds s t) → IsRow row side s
-all_stored_tell side s row tight are = λ t inside. from_tells side s t (get_or row t None) tight (are t inside)
-
--- ---- bounds that go back
-
-none_to : (rows : List BoundRow) (s t u : ℕ) → s ≢ u → lead_back rows s t ≡ true → stored rows t u ≡ None
-none_to [] s t u other all = refl
-none_to (row ∷ rows) s t u other all =
-    let parts = and_parts (not (row.s == t) || row.t == s) (lead_back rows s t) all in
-    elim (cases_Bool (row.s == t)) [
-      | inl from ↦
-          let back : (row.t == s) ≡ true = rw from at parts.0 in
-          let to : row.t ≡ s = eqb-true row.t s back in
-          rw (from, ne_eqb row.t u (λ e. other (sym to ∙ e))) (none_to rows s t u other parts.1)
-      | inr apart ↦ rw apart (none_to rows s t u other parts.1)
-    ]
-
-no_sums : (rows some : List BoundRow) (s u : ℕ) → s ≢ u → list_all (goes_back rows s) some ≡ true
-    → by_bounds.greatest_sum rows (rows_from some s) u ≡ None
-unfolding by_bounds.greatest_sum
-no_sums rows [] s u other all = refl
-no_sums rows (row ∷ some) s u other all =
-    let parts = and_parts (goes_back rows s row) (list_all (goes_back rows s) some) all in
-    elim (cases_Bool (row.s == s)) [
-      | inl same ↦
-          let back : lead_back rows s row.t ≡ true = rw same at parts.0 in
-          rw (same, none_to rows s row.t u other back) (no_sums rows some s u other parts.1)
-      | inr apart ↦ rw apart (no_sums rows some s u other parts.1)
-    ]
-
--- Where bounds behind those from a symbol go back to it alone, what is stored tells all.
-stored_alone : (rows : List BoundRow) (s t : ℕ) → s ≢ t → list_all (goes_back rows s) rows ≡ true → direct_gap rows s t ≡ by_bounds.gap rows s t
-unfolding by_bounds.gap by_bounds.exact_gap direct_gap
-stored_alone rows s t other all = rw (no_sums rows rows s t other all, greater_gap-none (stored rows s t)) refl
-
-pub back_tight : (side : Known) (s : ℕ) → list_all (goes_back side.bounds s) side.bounds ≡ true → IsTightFrom side s
-unfolding side_rule.gap
-back_tight side s all = record {
-  stored = λ t other.
-      ap (λ k. beside k (between side s t)) (stored_alone side.bounds s t other all) ∙ with_spans side.bounds (between side s t) s t other;
+stored_tells side s t known tight is = record {
+  itself = λ same. is ∙ direct_same side.bounds s t same;
+  others = λ other. ap (λ k. beside k (between side s t)) is ∙ tight.stored s t other;
 }
+
+pub all_stored_tell : (side : Known) (s : ℕ) (row : List (Option ℤ)) → IsTight side → EachIndex row (λ t. get_or row t None ≡ direct_gap side.bounds s t)
+    → IsRow row side s
+all_stored_tell side s row tight are = λ t inside. stored_tells side s t (get_or row t None) tight (are t inside)
 
 -- Beside the spans, what tells what is known is what is known.
 pub told_gap : (side : Known) (s t : ℕ) (known found : Option ℤ) → s ≢ t → Tells side s t known → found ≡ beside known (between side s t)

@@ -1,7 +1,7 @@
 -- Gaps that are written for each symbol, and what they tell beside the spans.
-use Rattle.std.specs.Prelude.{◌≡◌, ◌≢◌, ℕ, ◌==◌, ℤ, pos, Bool, true, false, not, ◌&&◌, ◌||◌, int_le, List, [], ◌∷◌, slice_index_or, EachIndex, Option, Some, None}
+use Rattle.std.specs.Prelude.{◌≡◌, ◌≢◌, ℕ, ◌==◌, ℤ, pos, ◌+ℤ◌, Bool, true, false, not, ◌&&◌, ◌||◌, int_le, List, [], ◌∷◌, slice_index_or, EachIndex, Option, Some, None}
 use Rattle.std.specs.List.{list_all}
-use Rattle.domain_api.specs.Order.{greater_gap}
+use Rattle.domain_api.specs.Order.{gap_is_at_least, greater_gap}
 use Rattle.number_spans.specs.declared.span.Span.{Span}
 use Rattle.pentagon_domain.specs.declared.bound_row.BoundRow.{BoundRow}
 use Rattle.pentagon_domain.specs.declared.ends.Ends.{Ends}
@@ -26,19 +26,17 @@ IsRow row side s = EachIndex row (λ t. Tells side s t (slice_index_or row t Non
 pub record IsTight (side : Known) : Type 0 where
   pub stored : (s t : ℕ) → s ≢ t → beside (direct_gap side.bounds s t) (between side s t) ≡ gap side s t
 
--- Beside the spans what is stored tells all that is known from a symbol.
-pub record IsTightFrom (side : Known) (s : ℕ) : Type 0 where
-  pub stored : (t : ℕ) → s ≢ t → beside (direct_gap side.bounds s t) (between side s t) ≡ gap side s t
+-- ---- bounds behind each other
 
--- ---- bounds that go back
+-- The next bound goes from another symbol than that to which the first goes, or back to s, or both together are no more
+-- than what is written of where it goes.
+abbrev pub adds_nothing : List (Option ℤ) → ℕ → BoundRow → BoundRow → Bool
+adds_nothing row s first next =
+    not (next.s == first.t) || (next.t == s || gap_is_at_least (slice_index_or row next.t None) (first.k +ℤ next.k))
 
--- Each bound from a symbol goes to s.
-abbrev pub lead_back : List BoundRow → ℕ → ℕ → Bool
-lead_back rows s t = list_all (λ next. not (next.s == t) || next.t == s) rows
-
--- Each bound behind one from s goes back to s.
-abbrev pub goes_back : List BoundRow → ℕ → BoundRow → Bool
-goes_back rows s row = not (row.s == s) || lead_back rows s row.t
+-- A bound goes from another symbol than s, or this is so of each bound.
+abbrev pub add_nothing : List BoundRow → List (Option ℤ) → ℕ → BoundRow → Bool
+add_nothing rows row s first = not (first.s == s) || list_all (adds_nothing row s first) rows
 
 -- ---- spans between ends
 

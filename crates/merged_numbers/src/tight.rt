@@ -1,16 +1,17 @@
 //! Bounds that tell no more than what is stored and what the spans tell.
 
-ghost use Rattle.std.specs.Prelude.{◌≡◌, ◌==◌, not, [], None, IfOk, IfSome, IsTrue};
+ghost use Rattle.std.specs.Prelude.{◌≡◌, ◌==◌, not, [], None, slice_index_or, EachIndex, IfOk, IfSome, IsTrue};
 ghost use Rattle.std.specs.List.{list_all};
+ghost use Rattle.pentagon_domain.specs.Gaps.{direct_gap};
 ghost use Rattle.pentagon_domain.specs.Rows.{rows_from};
 ghost use Rattle.merged_numbers.specs.Known.{known};
 ghost use Rattle.merged_numbers.specs.Rows as rule;
-ghost use Rattle.merged_numbers.specs.Rows.{IsRow, IsTight, IsTightFrom};
+ghost use Rattle.merged_numbers.specs.Rows.{IsRow, IsTight};
 
 use crate::side::Side;
-use domain_api::NoMemory;
+use domain_api::{NoMemory, gap_is_at_least};
 use interval_domain::Range;
-use number_spans::Span;
+use number_spans::{Span, sum_of};
 use pentagon_domain::{BoundRow, Bounds, BoundsBuilder, Ends};
 use std::alloc::Global;
 
@@ -47,25 +48,45 @@ fn are_between(ends: &[Ends], spans: &[Span]) -> bool
     true
 }
 
-/// Returns whether each bound that goes from the second symbol goes to the first.
-fn lead_back(rows: &[BoundRow], s: u32, t: u32) -> bool
-    ensures { result ≡ rule.lead_back rows.now s t }
+/// What is written of a symbol, if it has a place.
+fn written(row: &[Option<i64>], t: u32) -> Option<i64>
+    ensures { result ≡ slice_index_or row.now t None }
 {
-    rows.iter().all(|row| row.s != t || row.t == s)
+    match row.get(t as usize) {
+        None => None,
+        Some(gap) => *gap,
+    }
 }
 
-/// Returns whether each bound behind one from a symbol goes back to it.
-fn goes_back(rows: &[BoundRow], s: u32, row: &BoundRow) -> bool
-    ensures { result ≡ rule.goes_back rows.now s row.now }
+/// Returns whether a bound behind one from s goes back to it, or both together are no more than what is written of where
+/// it goes. So it is of each bound that goes from elsewhere.
+fn adds_nothing(row: &[Option<i64>], s: u32, first: &BoundRow, next: &BoundRow) -> bool
+    ensures { result ≡ rule.adds_nothing row.now s first.now next.now }
 {
-    row.s != s || lead_back(rows, s, row.t)
+    next.s != first.t
+        || next.t == s
+        || gap_is_at_least(written(row, next.t), sum_of(first.k, next.k))
 }
 
-/// Returns whether this is so of all bounds.
-fn go_back(rows: &[BoundRow], s: u32) -> bool
-    ensures { result ≡ list_all (rule.goes_back rows.now s) rows.now }
+/// Returns whether this is so of each of these bounds.
+fn each_adds_nothing(rows: &[BoundRow], row: &[Option<i64>], s: u32, first: &BoundRow) -> bool
+    ensures { result ≡ list_all (rule.adds_nothing row.now s first.now) rows.now }
 {
-    rows.iter().all(|row| goes_back(rows, s, row))
+    rows.iter().all(|next| adds_nothing(row, s, first, next))
+}
+
+/// Returns whether this is so behind a bound, if it goes from s.
+fn add_nothing(rows: &[BoundRow], row: &[Option<i64>], s: u32, first: &BoundRow) -> bool
+    ensures { result ≡ rule.add_nothing rows.now row.now s first.now }
+{
+    first.s != s || each_adds_nothing(rows, row, s, first)
+}
+
+/// Returns whether this is so behind each bound from s.
+fn all_add_nothing(rows: &[BoundRow], row: &[Option<i64>], s: u32) -> bool
+    ensures { result ≡ list_all (rule.add_nothing rows.now row.now s) rows.now }
+{
+    rows.iter().all(|first| add_nothing(rows, row, s, first))
 }
 
 impl Side<'_> {
@@ -83,17 +104,35 @@ impl Side<'_> {
         }
     }
 
-    /// Writes the row of a symbol. Where the state is tight, the bounds behind those of the symbol are not looked at.
-    #[tactic(auto, using(crate::proofs::RowLaws::gaps_tell, crate::proofs::RowLaws::all_stored_tell))]
-    fn write_row(&self, is_tight: bool, s: u32, row: &mut [Option<i64>])
-        requires { IsTrue is_tight → IsTightFrom (known self.now) s }
-        ensures { IsRow row.new (known self.now) s }
+    /// Returns whether what is stored from a symbol is seen to be its row: the state is tight, or bounds are few, and none
+    /// behind those from the symbol adds anything.
+    #[tactic(auto, using(crate::proofs::RowLaws::all_stored_tell))]
+    fn is_whole(&self, is_tight: bool, s: u32, row: &[Option<i64>]) -> bool
+        requires tight { IsTrue is_tight → IsTight (known self.now) }
+        requires stored { EachIndex row.now (λ t. slice_index_or row.now t None ≡ direct_gap self.now.bounds.now s t) }
+        ensures { IsTrue result → IsRow row.now (known self.now) s }
     {
         if is_tight {
-            self.bounds.stored_from(s, row);
-        } else {
-            self.bounds.gaps_from(s, row);
+            return true;
         }
+        let rows = self.bounds.rows();
+        if FEW <= rows.len() {
+            return false;
+        }
+        all_add_nothing(rows, row, s)
+    }
+
+    /// Writes the row of a symbol: what is stored, and what bounds behind each other tell, where these may add something.
+    #[tactic(auto, using(crate::proofs::RowLaws::gaps_tell))]
+    fn write_row(&self, is_tight: bool, s: u32, row: &mut [Option<i64>])
+        requires { IsTrue is_tight → IsTight (known self.now) }
+        ensures { IsRow row.new (known self.now) s }
+    {
+        self.bounds.stored_from(s, row);
+        if self.is_whole(is_tight, s, row) {
+            return;
+        }
+        self.bounds.gaps_from(s, row);
     }
 
     /// Returns whether no bound goes from a symbol. Few bounds are looked through.
@@ -106,17 +145,6 @@ impl Side<'_> {
         } else {
             self.bounds.rows_from(s).is_empty()
         }
-    }
-
-    /// Returns whether the bounds are few, and those behind the bounds from a symbol are seen to go back to it alone.
-    fn all_go_back(&self, s: u32) -> bool
-        ensures { IsTrue result → IsTightFrom (known self.now) s }
-    {
-        let rows = self.bounds.rows();
-        if FEW <= rows.len() {
-            return false;
-        }
-        go_back(rows, s)
     }
 
     /// The row of a symbol, which is written where there is room for it. None where no bound goes from the symbol: then
@@ -134,7 +162,7 @@ impl Side<'_> {
         if self.is_bare(s) {
             return None;
         }
-        self.write_row(is_tight || self.all_go_back(s), s, room);
+        self.write_row(is_tight, s, room);
         Some(room)
     }
 }
