@@ -1,8 +1,7 @@
 //! Bounds that tell no more than what is stored and what the spans tell.
 
-ghost use Rattle.std.specs.Prelude.{◌≡◌, ◌==◌, not, [], None, slice_index_or, EachIndex, IfOk, IfSome, IsTrue};
+ghost use Rattle.std.specs.Prelude.{◌≡◌, ◌==◌, not, [], None, slice_index_or, IfOk, IfSome, IsTrue};
 ghost use Rattle.std.specs.List.{list_all};
-ghost use Rattle.pentagon_domain.specs.Gaps.{direct_gap};
 ghost use Rattle.pentagon_domain.specs.Rows.{rows_from};
 ghost use Rattle.merged_numbers.specs.Known.{known};
 ghost use Rattle.merged_numbers.specs.Rows as rule;
@@ -58,8 +57,8 @@ fn written(row: &[Option<i64>], t: u32) -> Option<i64>
     }
 }
 
-/// Returns whether a bound behind one from s goes back to it, or both together are no more than what is written of where
-/// it goes. So it is of each bound that goes from elsewhere.
+/// Returns whether a bound behind one from s goes back to s, or both together are no more than what is written of
+/// where it goes. So it is of each bound that goes from elsewhere.
 fn adds_nothing(row: &[Option<i64>], s: u32, first: &BoundRow, next: &BoundRow) -> bool
     ensures { result ≡ rule.adds_nothing row.now s first.now next.now }
 {
@@ -104,35 +103,31 @@ impl Side<'_> {
         }
     }
 
-    /// Returns whether what is stored from a symbol is seen to be its row: the state is tight, or bounds are few, and none
-    /// behind those from the symbol adds anything.
-    #[tactic(auto, using(crate::proofs::RowLaws::all_stored_tell))]
-    fn is_whole(&self, is_tight: bool, s: u32, row: &[Option<i64>]) -> bool
-        requires tight { IsTrue is_tight → IsTight (known self.now) }
-        requires stored { EachIndex row.now (λ t. slice_index_or row.now t None ≡ direct_gap self.now.bounds.now s t) }
-        ensures { IsTrue result → IsRow row.now (known self.now) s }
+    /// Writes the row of a symbol, where bounds are few: what is stored, if bounds behind each other add nothing to it.
+    #[tactic(auto, using(crate::proofs::RowLaws::gaps_tell))]
+    fn write_few(&self, s: u32, row: &mut [Option<i64>])
+        ensures { IsRow row.new (known self.now) s }
     {
-        if is_tight {
-            return true;
+        self.bounds.stored_from(s, row);
+        if all_add_nothing(self.bounds.rows(), row, s) {
+            return;
         }
-        let rows = self.bounds.rows();
-        if FEW <= rows.len() {
-            return false;
-        }
-        all_add_nothing(rows, row, s)
+        self.bounds.gaps_from(s, row);
     }
 
-    /// Writes the row of a symbol: what is stored, and what bounds behind each other tell, where these may add something.
-    #[tactic(auto, using(crate::proofs::RowLaws::gaps_tell))]
+    /// Writes the row of a symbol. Where the state is tight, the bounds behind those of the symbol are not looked at.
+    #[tactic(auto, using(crate::proofs::RowLaws::gaps_tell, crate::proofs::RowLaws::all_stored_tell))]
     fn write_row(&self, is_tight: bool, s: u32, row: &mut [Option<i64>])
         requires { IsTrue is_tight → IsTight (known self.now) }
         ensures { IsRow row.new (known self.now) s }
     {
-        self.bounds.stored_from(s, row);
-        if self.is_whole(is_tight, s, row) {
-            return;
+        if is_tight {
+            self.bounds.stored_from(s, row);
+        } else if self.bounds.rows().len() < FEW {
+            self.write_few(s, row);
+        } else {
+            self.bounds.gaps_from(s, row);
         }
-        self.bounds.gaps_from(s, row);
     }
 
     /// Returns whether no bound goes from a symbol. Few bounds are looked through.
