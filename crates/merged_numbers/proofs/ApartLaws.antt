@@ -132,11 +132,11 @@ pair_itself apart i j gap rows same = rw (sym same) (sym (with_itself apart i ga
 
 -- ---- gaps by ranges alone
 
-cut_below : (n k : ℤ) → cut n ≡ Some k → k ≤ℤ n
+pub cut_below : (n k : ℤ) → cut n ≡ Some k → k ≤ℤ n
 unfolding cut
 cut_below n k is = grind (arith, ints)
 
-not_less : (m n : ℤ) → n ≤ℤ m → int_lt m n ≡ false
+pub not_less : (m n : ℤ) → n ≤ℤ m → int_lt m n ≡ false
 not_less m n h = grind (arith, ints)
 
 -- A gap that says no more than ranges is not stored.

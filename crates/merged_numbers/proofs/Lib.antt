@@ -5,6 +5,7 @@ pub mod CutLaws
 pub mod OutcomeLaws
 pub mod RangeLists
 pub mod RowLaws
+pub mod SumLaws
 pub mod TightLaws
 pub mod InclusionLaws
 pub mod FormLaws

@@ -1,5 +1,7 @@
 -- Gaps that are read from a row.
-use Rattle.std.proofs.Common.{◌≡◌, ◌≢◌, ℕ, zero, suc, ◌+◌, ◌<◌, ◌≤◌, ◌==◌, ℤ, pos, List, [], ◌∷◌, length, get_or, Option, Some, None, refl, sym, ap, subst, ◌∙◌, add-one, arith}
+use Rattle.std.proofs.Common.{◌≡◌, ◌≢◌, ℕ, zero, suc, ◌+◌, ◌<◌, ◌≤◌, ◌==◌, ℤ, pos, true, false, not, List, [], ◌∷◌, length, get_or, Option, Some, None, refl, sym, ap, subst, ◌∙◌, add-one, inl, inr, arith}
+use Rattle.std.specs.List.{list_all}
+use Rattle.std.proofs.lemmas.Bool.{and_parts, cases_Bool}
 use Rattle.std.specs.Prelude.{EachIndex, if◌then◌else◌}
 use Rattle.interval_domain.specs.Interval.{Interval}
 use Rattle.pentagon_domain.specs.Gaps as by_bounds
@@ -37,6 +39,16 @@ gap_tells side s t known is = record {
   itself = λ same. is ∙ gap_same side.bounds s t same;
   others = λ other. ap (λ k. beside k (between side s t)) is ∙ with_spans side.bounds (between side s t) s t other;
 }
+
+-- Where each bound goes from another symbol, none goes from this one.
+pub none_from : (rows : List BoundRow) (s : ℕ) → list_all (λ row. not (row.s == s)) rows ≡ true → rows_from rows s ≡ []
+none_from [] s all = refl
+none_from (row ∷ rows) s all =
+    let parts = and_parts (not (row.s == s)) (list_all (λ row. not (row.s == s)) rows) all in
+    elim (cases_Bool (row.s == s)) [
+      | inl same ↦ let never : false ≡ true = rw same at parts.0 in absurd cc
+      | inr other ↦ rw other (none_from rows s parts.1)
+    ]
 
 -- From a symbol from which no bound goes, the symbol itself alone is known to lie so far.
 bare_gap : (rows : List BoundRow) (s t : ℕ) → rows_from rows s ≡ [] → by_bounds.gap rows s t ≡ (if s == t then Some (pos 0) else None)

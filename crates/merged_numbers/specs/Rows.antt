@@ -1,7 +1,9 @@
 -- Gaps that are written for each symbol, and what they tell beside the spans.
-use Rattle.std.specs.Prelude.{◌≡◌, ◌≢◌, ℕ, ℤ, pos, Bool, true, false, ◌&&◌, int_le, List, [], ◌∷◌, slice_index_or, EachIndex, Option, Some, None}
-use Rattle.domain_api.specs.Order.{greater_gap}
+use Rattle.std.specs.Prelude.{◌≡◌, ◌≢◌, ℕ, ◌==◌, ℤ, pos, ◌+ℤ◌, Bool, true, false, not, ◌&&◌, ◌||◌, int_le, List, [], ◌∷◌, slice_index_or, EachIndex, Option, Some, None}
+use Rattle.std.specs.List.{list_all}
+use Rattle.domain_api.specs.Order.{gap_is_at_least, greater_gap}
 use Rattle.number_spans.specs.declared.span.Span.{Span}
+use Rattle.pentagon_domain.specs.declared.bound_row.BoundRow.{BoundRow}
 use Rattle.pentagon_domain.specs.declared.ends.Ends.{Ends}
 use Rattle.pentagon_domain.specs.Gaps.{cut, direct_gap}
 use Rattle.merged_numbers.specs.Known.{Known, between, gap}
@@ -23,6 +25,18 @@ IsRow row side s = EachIndex row (λ t. Tells side s t (slice_index_or row t Non
 -- Beside the spans what is stored of two symbols tells all that is known of them.
 pub record IsTight (side : Known) : Type 0 where
   pub stored : (s t : ℕ) → s ≢ t → beside (direct_gap side.bounds s t) (between side s t) ≡ gap side s t
+
+-- ---- bounds behind each other
+
+-- The next bound goes from another symbol than that to which the first goes, or back to s, or both together are no more
+-- than what is written of where it goes.
+abbrev pub adds_nothing : List (Option ℤ) → ℕ → BoundRow → BoundRow → Bool
+adds_nothing row s first next =
+    not (next.s == first.t) || (next.t == s || gap_is_at_least (slice_index_or row next.t None) (first.k +ℤ next.k))
+
+-- A bound goes from another symbol than s, or this is so of each bound.
+abbrev pub add_nothing : List BoundRow → List (Option ℤ) → ℕ → BoundRow → Bool
+add_nothing rows row s first = not (first.s == s) || list_all (adds_nothing row s first) rows
 
 -- ---- spans between ends
 
