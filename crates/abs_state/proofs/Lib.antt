@@ -1,3 +1,4 @@
+pub mod Boxed
 pub mod Rising
 pub mod PartForms
 pub mod KeptWhereOk

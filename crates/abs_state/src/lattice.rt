@@ -16,7 +16,6 @@ use std::alloc::Global;
 
 impl AbsState {
     /// Two states as one. Where one is not reached it is the other.
-    #[tactic(auto, using(merged_states::proofs::Handed::alike))]
     fn merged(&self, alloc: Global, rule: Merging, other: &AbsState) -> Result<AbsState, NoMemory>
         requires { AreLikeStates self.now other.now }
         ensures { IfOk result (λ merged. merged ≡ states.merged (rule_of rule) self.now other.now) }
@@ -24,9 +23,10 @@ impl AbsState {
         match (&self.known, &other.known) {
             (None, _) => other.copy(alloc),
             (_, None) => self.copy(alloc),
-            (Some(a), Some(b)) => Ok(AbsState {
-                known: merged(alloc, rule, a, b)?,
-            }),
+            (Some(a), Some(b)) => {
+                let both = merged(alloc, rule, a, b)?;
+                AbsState::of_known(alloc, both)
+            }
         }
     }
 
@@ -41,9 +41,10 @@ impl AbsState {
     {
         match &self.known {
             None => Ok(AbsState::nothing()),
-            Some(known) => Ok(AbsState {
-                known: named(alloc, known)?,
-            }),
+            Some(known) => {
+                let normal = named(alloc, known)?;
+                AbsState::of_known(alloc, normal)
+            }
         }
     }
 }
@@ -69,7 +70,6 @@ impl Lattice for AbsState {
         self.merged(alloc, Merging::Widening, other)
     }
 
-    #[tactic(auto, using(merged_states::proofs::Handed::alike))]
     fn leq(&self, alloc: Global, other: &AbsState) -> Result<bool, NoMemory> {
         match (&self.known, &other.known) {
             (None, _) => Ok(true),

@@ -354,6 +354,7 @@ impl AbsState {
         let Some(known) = parts.known(alloc)? else {
             return Ok(None);
         };
-        Ok(Some(AbsState { known: Some(known) }))
+        let state = AbsState::of_known(alloc, Some(known))?;
+        Ok(Some(state))
     }
 }

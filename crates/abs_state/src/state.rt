@@ -31,19 +31,20 @@ use std::marker::Model;
 /// Symbols and references that no variable has any more stay until the normal form is taken.
 #[derive(Drop)]
 pub struct AbsState {
-    pub(crate) known: Option<Known>,
+    // In a box, since calls take a state by value and give it back.
+    pub(crate) known: Option<Box<Known>>,
 }
 
 impl Model for AbsState {
-    ghost use Rattle.std.specs.Option.{ForSome};
+    ghost use Rattle.std.specs.Option.{ForSome, option_map};
     ghost use Rattle.state_facts.specs.Forms.{HasForm};
     ghost use Rattle.state_facts.specs.StateFacts.{State};
 
     ghost Value = { State };
 
-    ghost view = { λ s. s.known };
+    ghost view = { λ s. option_map (λ known. known.value) s.known };
 
-    ghost invariant = { λ s. ForSome s.known HasForm };
+    ghost invariant = { λ s. ForSome (option_map (λ known. known.value) s.known) HasForm };
 }
 
 impl AbsState {
@@ -62,15 +63,29 @@ impl AbsState {
         self.known.is_some()
     }
 
+    /// The state in which this is known. None: nothing is reached.
+    pub(crate) fn of_known(alloc: Global, known: Option<Known>) -> Result<AbsState, NoMemory>
+        requires { ForSome known HasForm }
+        ensures { IfOk result (λ state. state ≡ known) }
+    {
+        match known {
+            None => Ok(AbsState::nothing()),
+            Some(known) => Ok(AbsState {
+                known: Some(Box::new(alloc, known)?),
+            }),
+        }
+    }
+
     /// A copy.
     pub fn copy(&self, alloc: Global) -> Result<AbsState, NoMemory>
         ensures { IfOk result (λ again. again ≡ self.now) }
     {
         match &self.known {
-            None => Ok(AbsState { known: None }),
-            Some(known) => Ok(AbsState {
-                known: Some(known.copy(alloc)?),
-            }),
+            None => Ok(AbsState::nothing()),
+            Some(known) => {
+                let again = known.copy(alloc)?;
+                AbsState::of_known(alloc, Some(again))
+            }
         }
     }
 

@@ -1,3 +1,4 @@
+pub mod Nothing
 pub mod Handed
 pub mod PartsFormed
 pub mod Formed

@@ -147,6 +147,7 @@ impl Names<'_> {
 /// The definitions of a state in the names of its own first uses, given the names of its symbols.
 ///
 /// Cost: for each key a pass over the definitions.
+#[tactic(auto, using(crate::proofs::Nothing::none_defined))]
 pub(crate) fn renamed_definitions(
     alloc: Global,
     frames: &PairedFrames,
@@ -158,10 +159,14 @@ pub(crate) fn renamed_definitions(
         (rule.def_of_one frames.now (length a.now.facts.ranges + 1) (length a.now.references + 1)
         a.now.facts.definitions) 1 frames.now.numbers.keys) }
 {
+    let definitions = a.numbers.definitions.rows();
+    if definitions.is_empty() {
+        return Ok(Vec::new(alloc));
+    }
     let names = Names {
         symbols,
         references: reference_names(alloc, frames, a.references.len() + 1)?,
-        definitions: a.numbers.definitions.rows(),
+        definitions,
     };
     names.renamed(alloc, frames.numbers.keys.as_slice())
 }

@@ -168,6 +168,9 @@ fn all_follows(alloc: Global, a: &Known, b: &Known, binding: &Binding) -> Result
     if !numbers_follow(alloc, a, b, binding)? {
         return Ok(false);
     }
+    if second.is_empty() && b.numbers.definitions.rows().is_empty() {
+        return apart_follows(alloc, first, &a.apart, &b.apart, binding);
+    }
     let symbols = symbol_names(alloc, binding)?;
     if !definitions_follow(alloc, a, b, binding, symbols.as_slice())? {
         return Ok(false);

@@ -42,6 +42,9 @@ pub(crate) fn contents_of_both(
         return Err(AllocError);
     }
     let keys = frames.references.pairs.keys.as_slice();
+    if keys.is_empty() {
+        return Ok(Contents::new(alloc));
+    }
     let lengths = frames.lengths.as_slice();
     a.contents
         .merged(alloc, way, &b.contents, keys, &frames.numbers, lengths)
@@ -65,5 +68,8 @@ pub(crate) fn contents_of_one(
         return Err(AllocError);
     }
     let keys = frames.references.pairs.keys.as_slice();
+    if keys.is_empty() {
+        return Ok(Contents::new(alloc));
+    }
     a.contents.renamed(alloc, names, keys)
 }

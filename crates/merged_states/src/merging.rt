@@ -1,6 +1,6 @@
 //! Two states as one, and one in the names of its own first uses.
 
-ghost use Rattle.std.specs.Prelude.{◌≡◌, ◌+◌, length, map, IfOk, Some, option_map};
+ghost use Rattle.std.specs.Prelude.{◌≡◌, ◌+◌, [], length, map, IfOk, Some, option_map};
 ghost use Rattle.std.specs.Option.{ForSome};
 ghost use Rattle.array_contents.specs.Makings as makings;
 ghost use Rattle.frame_names.specs.ApartPairs as apart_pairs;
@@ -106,6 +106,23 @@ struct Tables {
     references: Vec<Reference>,
     apart: Apart,
     contents: Contents,
+}
+
+impl Tables {
+    /// Those in which nothing is known.
+    fn nothing(alloc: Global) -> Tables
+        ensures definitions { result.definitions ≡ [] }
+        ensures references { result.references.items ≡ [] }
+        ensures apart { result.apart ≡ [] }
+        ensures contents { result.contents ≡ [] }
+    {
+        Tables {
+            definitions: Definitions::new(alloc),
+            references: Vec::new(alloc),
+            apart: Apart::new(alloc),
+            contents: Contents::new(alloc),
+        }
+    }
 }
 
 /// What is known of new symbols and references.
@@ -303,9 +320,12 @@ fn named_tables(alloc: Global, frames: &PairedFrames, a: &Known) -> Result<Table
     ensures contents { IfOk result (λ tables. tables.contents ≡ parts.if_numbered frames.now
         (parts.contents_of_one frames.now (length a.now.facts.ranges + 1) a.now.contents)) }
 {
+    let keys = frames.references.pairs.keys.as_slice();
+    if keys.is_empty() && a.numbers.definitions.rows().is_empty() {
+        return Ok(Tables::nothing(alloc));
+    }
     let known = a.references.as_slice();
     let references = references_of(alloc, frames, known, known)?;
-    let keys = frames.references.pairs.keys.as_slice();
     let apart = kept_apart(alloc, keys, &a.apart)?;
     let pairs = &frames.numbers;
     let names = pairs.names(alloc, a.numbers.ranges.len() + 1)?;

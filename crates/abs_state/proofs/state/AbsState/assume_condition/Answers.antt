@@ -1,11 +1,15 @@
 use Rattle.std.proofs.Common.{rules, sym, ◌∙◌}
 use Rattle.state_facts.proofs.Growing.{same_form}
 use Rattle.state_obligations.proofs.StateLaws.{formed_behind}
+use Rattle.abs_state.proofs.Boxed.{boxed}
 use Rattle.abs_state.proofs.state.AbsState.assume_condition.Goals as goal
 
 pub invariant_of-self-else-not-branch : goal.invariant_of-self-else-not-branch
-invariant_of-self-else-not-branch c = λ x is. same_form _ x is
-    (formed_behind c.args.condition c.in-Some.known c.assume.new.known (c.self.invariant _ c.in-Some.is) (c.requires.there _ (sym c.self.view_is ∙ c.in-Some.is))
+invariant_of-self-else-not-branch c =
+    let held = boxed c.in-Some.is c.deref_mut.ensures.value in
+    λ x is. same_form _ x is
+    (formed_behind c.args.condition c.deref_mut.result.now c.assume.new.known (c.self.invariant _ held)
+    (c.requires.there _ (sym c.self.view_is ∙ held))
     (c.in_ok-assume.ensures.ok (search rules)))
 
 pub returns-then-not-branch-clause-form : goal.returns-then-not-branch-clause-form
@@ -15,7 +19,7 @@ pub returns-else-not-branch-clause-form : goal.returns-else-not-branch-clause-fo
 returns-else-not-branch-clause-form c = λ x is. c.self.invariant x (c.self.view_is ∙ is)
 
 pub assume-requires-clause-form : goal.assume-requires-clause-form
-assume-requires-clause-form c = c.self.invariant _ c.in-Some.is
+assume-requires-clause-form c = c.self.invariant _ (boxed c.in-Some.is c.deref_mut.ensures.value)
 
 pub invariant_of-self-in_err-assume : goal.invariant_of-self-in_err-assume
 invariant_of-self-in_err-assume c = λ x is. same_form _ x is c.in_err-assume.ensures.form

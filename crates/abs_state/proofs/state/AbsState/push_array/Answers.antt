@@ -1,18 +1,23 @@
 use Rattle.std.proofs.Common.{sym, ◌∙◌}
 use Rattle.state_facts.proofs.Growing.{same_form}
 use Rattle.state_facts.proofs.MoveForms.{array_form}
+use Rattle.abs_state.proofs.Boxed.{boxed}
 use Rattle.abs_state.proofs.state.AbsState.push_array.Goals as goal
 
 pub invariant_of-self-2 : goal.invariant_of-self-2
-invariant_of-self-2 c = λ x is. same_form _ x is (rw c.in_ok-new_array.ensures.ok
-    (array_form c.args.place c.args.length c.in-Some.known (c.self.invariant _ c.in-Some.is) c.requires.place (c.requires.length _ (sym c.self.view_is ∙ c.in-Some.is))))
+invariant_of-self-2 c =
+    let held = boxed c.in-Some.is c.deref_mut.ensures.value in
+    λ x is. same_form _ x is (rw c.in_ok-new_array.ensures.ok
+    (array_form c.args.place c.args.length c.deref_mut.result.now (c.self.invariant _ held) c.requires.place
+    (c.requires.length _ (sym c.self.view_is ∙ held))))
 
 pub returns-clause-form : goal.returns-clause-form
 returns-clause-form c = λ x is. c.self.invariant x (c.self.view_is ∙ is)
 
 pub invariant_of-self-in_err-new_array : goal.invariant_of-self-in_err-new_array
 invariant_of-self-in_err-new_array c =
-    λ x is. same_form _ x is (rw c.in_err-new_array.ensures.err (c.self.invariant _ c.in-Some.is))
+    let held = boxed c.in-Some.is c.deref_mut.ensures.value in
+    λ x is. same_form _ x is (rw c.in_err-new_array.ensures.err (c.self.invariant _ held))
 
 pub returns-in_err-new_array-clause-form : goal.returns-in_err-new_array-clause-form
 returns-in_err-new_array-clause-form c = λ x is. c.self.invariant x (c.self.view_is ∙ is)

@@ -1,10 +1,15 @@
 use Rattle.std.proofs.Common.{rules, ◌∙◌}
 use Rattle.state_facts.proofs.Growing.{same_form, formed_new}
 use Rattle.state_facts.proofs.MoveForms.{item_form}
+use Rattle.abs_state.proofs.Boxed.{boxed}
 use Rattle.abs_state.proofs.state.AbsState.push_item.Goals as goal
 
 pub invariant_of-self-else-not-branch : goal.invariant_of-self-else-not-branch
-invariant_of-self-else-not-branch c = λ x is. same_form _ x is (formed_new _ _ (item_form c.args.r c.args.at c.in-Some.known (c.self.invariant _ c.in-Some.is)) (c.in_ok-load.ensures.ok (search rules)))
+invariant_of-self-else-not-branch c =
+    let held = boxed c.in-Some.is c.deref_mut.ensures.value in
+    λ x is. same_form _ x is (formed_new _ _
+    (item_form c.args.r c.args.at c.deref_mut.result.now (c.self.invariant _ held))
+    (c.in_ok-load.ensures.ok (search rules)))
 
 pub returns-then-not-branch-clause-form : goal.returns-then-not-branch-clause-form
 returns-then-not-branch-clause-form c = λ x is. c.self.invariant x (c.self.view_is ∙ is)
@@ -13,10 +18,12 @@ pub returns-else-not-branch-clause-form : goal.returns-else-not-branch-clause-fo
 returns-else-not-branch-clause-form c = λ x is. c.self.invariant x (c.self.view_is ∙ is)
 
 pub load-requires : goal.load-requires
-load-requires c = c.self.invariant _ c.in-Some.is
+load-requires c = c.self.invariant _ (boxed c.in-Some.is c.deref_mut.ensures.value)
 
 pub invariant_of-self-in_err-load : goal.invariant_of-self-in_err-load
-invariant_of-self-in_err-load c = λ x is. same_form _ x is (rw c.in_err-load.ensures.err (c.self.invariant _ c.in-Some.is))
+invariant_of-self-in_err-load c =
+    let held = boxed c.in-Some.is c.deref_mut.ensures.value in
+    λ x is. same_form _ x is (rw c.in_err-load.ensures.err (c.self.invariant _ held))
 
 pub returns-in_err-load-clause-form : goal.returns-in_err-load-clause-form
 returns-in_err-load-clause-form c = λ x is. c.self.invariant x (c.self.view_is ∙ is)

@@ -1,11 +1,14 @@
 use Rattle.std.proofs.Common.{rules, ◌∙◌}
 use Rattle.state_facts.proofs.Growing.{same_form, formed_new}
 use Rattle.state_facts.proofs.UnknownAddresses.{unknown_address_form}
+use Rattle.abs_state.proofs.Boxed.{boxed}
 use Rattle.abs_state.proofs.state.AbsState.push_item_address.Goals as goal
 
 pub invariant_of-self-else-not-branch : goal.invariant_of-self-else-not-branch
-invariant_of-self-else-not-branch c = λ x is. same_form _ x is (formed_new _ _
-    (unknown_address_form c.args.place c.in-Some.known (c.self.invariant _ c.in-Some.is) c.requires)
+invariant_of-self-else-not-branch c =
+    let held = boxed c.in-Some.is c.deref_mut.ensures.value in
+    λ x is. same_form _ x is (formed_new _ _
+    (unknown_address_form c.args.place c.deref_mut.result.now (c.self.invariant _ held) c.requires)
     (c.in_ok-push_unknown_address.ensures.ok (search rules)))
 
 pub returns-then-not-branch-clause-form : goal.returns-then-not-branch-clause-form
@@ -16,7 +19,8 @@ returns-else-not-branch-clause-form c = λ x is. c.self.invariant x (c.self.view
 
 pub invariant_of-self-in_err-push_unknown_address : goal.invariant_of-self-in_err-push_unknown_address
 invariant_of-self-in_err-push_unknown_address c =
-    λ x is. same_form _ x is (rw c.in_err-push_unknown_address.ensures.err (c.self.invariant _ c.in-Some.is))
+    let held = boxed c.in-Some.is c.deref_mut.ensures.value in
+    λ x is. same_form _ x is (rw c.in_err-push_unknown_address.ensures.err (c.self.invariant _ held))
 
 pub returns-in_err-push_unknown_address-clause-form : goal.returns-in_err-push_unknown_address-clause-form
 returns-in_err-push_unknown_address-clause-form c =

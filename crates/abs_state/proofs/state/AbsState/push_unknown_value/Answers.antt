@@ -1,10 +1,15 @@
 use Rattle.std.proofs.Common.{rules, ◌∙◌}
 use Rattle.state_facts.proofs.Growing.{same_form, formed_new}
 use Rattle.state_facts.proofs.UnknownValues.{unknown_form}
+use Rattle.abs_state.proofs.Boxed.{boxed}
 use Rattle.abs_state.proofs.state.AbsState.push_unknown_value.Goals as goal
 
 pub invariant_of-self-else-not-branch : goal.invariant_of-self-else-not-branch
-invariant_of-self-else-not-branch c = λ x is. same_form _ x is (formed_new _ _ (unknown_form c.args.place c.in-Some.known (c.self.invariant _ c.in-Some.is)) (c.in_ok-push_unknown.ensures.ok (search rules)))
+invariant_of-self-else-not-branch c =
+    let held = boxed c.in-Some.is c.deref_mut.ensures.value in
+    λ x is. same_form _ x is (formed_new _ _
+    (unknown_form c.args.place c.deref_mut.result.now (c.self.invariant _ held))
+    (c.in_ok-push_unknown.ensures.ok (search rules)))
 
 pub returns-then-not-branch-clause-form : goal.returns-then-not-branch-clause-form
 returns-then-not-branch-clause-form c = λ x is. c.self.invariant x (c.self.view_is ∙ is)
@@ -13,7 +18,9 @@ pub returns-else-not-branch-clause-form : goal.returns-else-not-branch-clause-fo
 returns-else-not-branch-clause-form c = λ x is. c.self.invariant x (c.self.view_is ∙ is)
 
 pub invariant_of-self-in_err-push_unknown : goal.invariant_of-self-in_err-push_unknown
-invariant_of-self-in_err-push_unknown c = λ x is. same_form _ x is (rw c.in_err-push_unknown.ensures.err (c.self.invariant _ c.in-Some.is))
+invariant_of-self-in_err-push_unknown c =
+    let held = boxed c.in-Some.is c.deref_mut.ensures.value in
+    λ x is. same_form _ x is (rw c.in_err-push_unknown.ensures.err (c.self.invariant _ held))
 
 pub returns-in_err-push_unknown-clause-form : goal.returns-in_err-push_unknown-clause-form
 returns-in_err-push_unknown-clause-form c = λ x is. c.self.invariant x (c.self.view_is ∙ is)
