@@ -5,4 +5,5 @@ pub mod Gaps
 pub mod Reach
 pub mod Most
 pub mod Tight
+pub mod Settled
 pub mod Laws

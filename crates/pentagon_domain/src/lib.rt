@@ -9,6 +9,7 @@ mod ends;
 mod forms;
 mod gaps;
 mod idle;
+mod note;
 mod order;
 mod orders;
 mod search;
