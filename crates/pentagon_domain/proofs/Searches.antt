@@ -186,5 +186,32 @@ stored_nowhere (row ∷ rows) s t form missing =
           skipped row rows s t here ∙ nothing_later row rows s t behind here form.1
     ]
 
+-- ---- a place that was guessed
+
+before_itself : (row : BoundRow) (s t : ℕ) → is_of row s t ≡ true → is_before row s t ≡ false
+before_itself row s t here = grind (arith, nat_tests)
+
+before_found : (row : BoundRow) (rows : List BoundRow) (place s t : ℕ) → AllByRecursion (StandsBefore row) rows → is_found rows place s t ≡ true
+    → is_before row s t ≡ true
+before_found row [] place s t later found = absurd cc
+before_found row (next ∷ rows) zero s t later found = before_of row next s t later.0 found
+  where
+    before_of : (row next : BoundRow) (s t : ℕ) → is_before row next.s next.t ≡ true → is_of next s t ≡ true → is_before row s t ≡ true
+    before_of row next s t before here = grind (arith, nat_tests)
+before_found row (next ∷ rows) (suc place) s t later found = before_found row rows place s t later.1 found
+
+found_place : (rows : List BoundRow) (place s t : ℕ) → AreBounds rows → is_found rows place s t ≡ true → place_of rows s t ≡ place
+found_place [] place s t form found = absurd cc
+found_place (row ∷ rows) zero s t form found = rw (before_itself row s t found) refl
+found_place (row ∷ rows) (suc place) s t form found =
+    rw (before_found row rows place s t form.1 found) (ap suc (found_place rows place s t form.2 found))
+
+-- Wherever the row of two symbols is found, it has their constant.
+pub found_stored : (rows : List BoundRow) (place s t : ℕ) (d : BoundRow) → AreBounds rows → is_found rows place s t ≡ true
+    → stored rows s t ≡ Some (get_or rows place d).k
+found_stored rows place s t d form found =
+    let is = found_place rows place s t form found in
+    rw is at (stored_found rows s t d (rw is found))
+
 -- What a search for a constant rests on.
 pub ruleset finds = (stored_found, stored_nowhere, inside_found)

@@ -1,16 +1,16 @@
 -- Tests whether rows are tight.
-use Rattle.std.proofs.Common.{◌≡◌, ◌≢◌, ℕ, suc, ◌+◌, ◌<◌, ◌≤◌, ℤ, ◌+ℤ◌, ◌==◌, true, List, [], ◌∷◌, length, get_or, drop, Option, Some, None, refl, sym, ◌∙◌, arith, add-one, drop-cons, inl, inr}
+use Rattle.std.proofs.Common.{◌≡◌, ◌≢◌, ℕ, suc, ◌+◌, ◌<◌, ◌≤◌, ℤ, ◌+ℤ◌, ◌==◌, Bool, true, false, ◌||◌, List, [], ◌∷◌, ◌++◌, length, get_or, drop, Option, Some, None, pos, ◌≤ℤ◌, refl, sym, ◌∙◌, arith, add-one, drop-cons, inl, inr}
 use Rattle.std.specs.Prelude.{EachIndex, option_and_then}
 use Rattle.std.specs.List.{AllByRecursion}
 use Rattle.std.proofs.Math.ListN.{get_or-eq_default}
-use Rattle.std.proofs.lemmas.Bool.{cases_Bool, cases_lt, eqb-false}
+use Rattle.std.proofs.lemmas.Bool.{cases_Bool, cases_lt, eqb-false, eqb-true}
 use Rattle.std.proofs.lemmas.Int.{ints}
-use Rattle.std.proofs.lemmas.List.{drop_all}
+use Rattle.std.proofs.lemmas.List.{drop_all, get_or_append_left, get_or_push, length-append}
 use Rattle.pentagon_domain.specs.declared.bound_row.BoundRow.{BoundRow}
 use Rattle.pentagon_domain.specs.declared.ends.Ends.{Ends}
 use Rattle.pentagon_domain.specs.Gaps.{AreBelow, cut, direct_gap}
 use Rattle.pentagon_domain.specs.Rows.{rows_from, stored}
-use Rattle.pentagon_domain.specs.Tight.{AddNothing, AreTightFrom, AreTightOver, apart, is_told}
+use Rattle.pentagon_domain.specs.Tight.{AddNothing, AreTightFrom, AreTightOver, AreTold, adds_nothing, apart, is_told, told_by}
 use Rattle.pentagon_domain.proofs.TightGaps.{direct_apart, none_from}
 
 -- ---- a loop over items that all pass
@@ -63,6 +63,36 @@ nothing_by_row ends rows row s k (next ∷ nexts) written nothing =
           let distinct : s ≢ next.t = λ e. eqb-false next.t s on (sym e) in
           (rw on (told_by_row rows row s next.t (k +ℤ next.k) (apart ends s next.t) distinct written (rw on at nothing.0)), rest)
     ]
+
+-- ---- the greatest number that is told
+
+told_most : (sum far : ℤ) (known : Option ℤ) → sum ≤ℤ told_by known far → is_told sum known far ≡ true
+told_most sum far None less = grind (arith, ints)
+told_most sum far (Some k) less = grind (arith, ints)
+
+pub told_pushed : (ends : List Ends) (known : List (Option ℤ)) (told : List ℤ) (s t : ℕ) (n : ℤ) → length told ≡ t → AreTold ends known s told
+    → n ≡ told_by (get_or known t None) (apart ends s t) → AreTold ends known s (told ++ n ∷ [])
+told_pushed ends known told s t n many each is = λ i inside.
+    elim (cases_Bool (i == length told)) [
+      | inl same ↦
+          let here : i ≡ length told = eqb-true i (length told) same in
+          rw (get_or_push told n (pos 0) i (sym here), here, many) is
+      | inr apart ↦
+          let before : i < length told = omega (arith, eqb-false i (length told) apart, inside, length-append told (n ∷ [])) in
+          rw (get_or_append_left told (n ∷ []) (pos 0) i before) (each i before)
+    ]
+
+-- A sum that is no greater than what is told adds nothing.
+pub told_adds : (ends : List Ends) (known : List (Option ℤ)) (told : List ℤ) (s : ℕ) (k : ℤ) (next : BoundRow) → AreTold ends known s told
+    → next.t < length told → (k +ℤ next.k) ≤ℤ get_or told next.t (pos 0) → adds_nothing ends (λ t. get_or known t None) s k next ≡ true
+told_adds ends known told s k next each inside less =
+    let told : is_told (k +ℤ next.k) (get_or known next.t None) (apart ends s next.t) ≡ true =
+    told_most (k +ℤ next.k) (apart ends s next.t) (get_or known next.t None) (rw (each next.t inside) at less) in
+    or_right (next.t == s) (is_told (k +ℤ next.k) (get_or known next.t None) (apart ends s next.t)) told
+  where
+    or_right : (p q : Bool) → q ≡ true → (p || q) ≡ true
+    or_right true q is = refl
+    or_right false q is = is
 
 -- ---- all symbols
 

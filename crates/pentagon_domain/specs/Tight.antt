@@ -1,5 +1,6 @@
 -- Rows of which no two behind each other tell more than what is stored, and than the ends of their symbols.
-use Rattle.std.specs.Prelude.{ℕ, ◌==◌, ℤ, pos, ◌+ℤ◌, ◌-ℤ◌, int_le, Bool, ◌||◌, IsTrue, List, length, get_or, Option, Some, None}
+use Rattle.std.specs.Prelude.{ℕ, ◌==◌, ℤ, pos, ◌+ℤ◌, ◌-ℤ◌, int_le, Bool, ◌||◌, IsTrue, List, length, get_or, Option, Some, None, ◌≡◌, EachIndex}
+use Rattle.std.specs.Int.{int_max}
 use Rattle.std.specs.List.{AllByRecursion}
 use Rattle.pentagon_domain.specs.declared.bound_row.BoundRow.{BoundRow}
 use Rattle.pentagon_domain.specs.declared.ends.Ends.{Ends}
@@ -18,6 +19,15 @@ apart ends s t = (get_or ends t no_ends).lo -ℤ (get_or ends s no_ends).hi
 abbrev pub is_told : ℤ → Option ℤ → ℤ → Bool
 is_told sum None far = int_le sum far
 is_told sum (Some k) far = int_le sum k || int_le sum far
+
+-- The greatest number that is told.
+abbrev pub told_by : Option ℤ → ℤ → ℤ
+told_by None far = far
+told_by (Some k) far = int_max k far
+
+-- In a list stands for each symbol the greatest number that is told of s and of it, by what is known from s and by ends.
+abbrev pub AreTold : List Ends → List (Option ℤ) → ℕ → List ℤ → Type 0
+AreTold ends known s told = EachIndex told (λ t. get_or told t (pos 0) ≡ told_by (get_or known t None) (apart ends s t))
 
 -- Behind a bound from s with the constant k, the next one goes back to s, or their sum is told, where what is known
 -- from s to each symbol is given.

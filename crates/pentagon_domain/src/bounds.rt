@@ -5,8 +5,10 @@ ghost use Rattle.std.specs.Prelude.{◌≡◌, ℕ, ℤ, [], ◌↔◌, IsSome, 
 use crate::bound_row::BoundRow;
 use crate::ends::{Ends, are_within};
 use crate::forms::{are_bounds, are_same};
+use crate::note::Note;
 use crate::orders::Orders;
-use crate::search::stored;
+use crate::search::{stored, stored_near};
+use crate::settled::are_settled;
 use crate::shared::change;
 use crate::tight::are_tight;
 use domain_api::NoMemory;
@@ -26,28 +28,29 @@ pub struct Bounds {
     alloc: Global,
     /// None where no room was taken yet.
     orders: Option<Rc<Orders>>,
-    /// Ends over which the rows are tight, where it was tested.
-    tight: Option<Rc<Vec<Ends>>>,
+    /// What is noted of the rows, where it was tested.
+    note: Option<Rc<Note>>,
 }
 
 impl Model for Bounds {
     ghost use Rattle.std.specs.Prelude.{List, IfSome, option_map};
     ghost use Rattle.pentagon_domain.specs.declared.bound_row.BoundRow.{BoundRow};
     ghost use Rattle.pentagon_domain.specs.Rows.{rows_in};
-    ghost use Rattle.pentagon_domain.specs.Tight.{AreTightOver};
+    ghost use Rattle.pentagon_domain.specs.Settled.{AreNoted};
 
     ghost Value = { List BoundRow };
 
     ghost view = { λ bounds. rows_in (option_map (λ orders. orders.value) bounds.orders) };
 
-    ghost invariant = { λ bounds. IfSome bounds.tight (λ ends.
-        AreTightOver ends.value.items (rows_in (option_map (λ orders. orders.value) bounds.orders))) };
+    ghost invariant = { λ bounds. IfSome bounds.note (λ note.
+        AreNoted note.value (rows_in (option_map (λ orders. orders.value) bounds.orders))) };
 }
 
 impl Bounds {
     ghost use Rattle.pentagon_domain.specs.Rows.{AreBounds, rows_in, rows_from, rows_to, stored, with_bound, with_bounds};
     ghost use Rattle.pentagon_domain.specs.Gaps.{Allows, LiesAbove};
     ghost use Rattle.pentagon_domain.specs.Most.{AreUpTo};
+    ghost use Rattle.pentagon_domain.specs.Settled.{AreNoted, AreSettledOver};
     ghost use Rattle.pentagon_domain.specs.Tight.{AreTightOver};
 
     /// No bound. Takes no memory.
@@ -57,7 +60,7 @@ impl Bounds {
         Bounds {
             alloc,
             orders: None,
-            tight: None,
+            note: None,
         }
     }
 
@@ -68,7 +71,7 @@ impl Bounds {
         Ok(Bounds {
             alloc,
             orders: Some(Rc::new(alloc, orders)?),
-            tight: None,
+            note: None,
         })
     }
 
@@ -163,6 +166,14 @@ impl Bounds {
         stored(self.rows(), s, t)
     }
 
+    /// The constant of the bound of two symbols. It is looked for at a place first, and then by halving; the place
+    /// after the bound is that of the next guess. No memory is taken.
+    pub fn stored_near(&self, s: u32, t: u32, guess: &mut usize) -> Option<i64>
+        ensures { result ≡ stored self.now s t }
+    {
+        stored_near(self.rows(), s, t, guess)
+    }
+
     /// Adds the bound s + k <= t; of two bounds of the same symbols the greater k is kept. Where the
     /// symbols are equal or one is 0, nothing is stored. After an error nothing has changed.
     ///
@@ -187,7 +198,7 @@ impl Bounds {
         if self.know_all(bounds) {
             return Ok(());
         }
-        self.tight = None;
+        self.note = None;
         change(self.alloc, &mut self.orders, bounds)
     }
 
@@ -225,17 +236,39 @@ impl Bounds {
         Ok(Bounds {
             alloc,
             orders: self.orders.clone()?,
-            tight: self.tight.clone()?,
+            note: self.note.clone()?,
         })
+    }
+
+    /// What is noted of the bounds.
+    fn note(&self) -> Option<&Note>
+        ensures { IfSome result (λ note. AreNoted note.now self.now) }
+    {
+        match &self.note {
+            None => None,
+            Some(note) => Some(note.as_ref()),
+        }
     }
 
     /// Ends over which the bounds are tight, that of symbol s at place s, where such are noted.
     pub fn tight_over(&self) -> Option<&[Ends]>
         ensures { IfSome result (λ ends. AreTightOver ends.now self.now) }
     {
-        match &self.tight {
+        match self.note() {
             None => None,
-            Some(ends) => Some(ends.as_ref().as_slice()),
+            Some(note) => Some(note.ends.as_slice()),
+        }
+    }
+
+    /// Ends over which the bounds are tight and settled: no bound cuts one, and each tells more than they do. None
+    /// where such are not noted.
+    pub fn settled_over(&self) -> Option<&[Ends]>
+        ensures tight { IfSome result (λ ends. AreTightOver ends.now self.now) }
+        ensures settled { IfSome result (λ ends. AreSettledOver ends.now self.now) }
+    {
+        match self.note() {
+            Some(note) if note.is_settled => Some(note.ends.as_slice()),
+            _ => None,
         }
     }
 
@@ -248,10 +281,31 @@ impl Bounds {
         if self.rows().len() < FEW || self.is_noted(&ends) || !are_tight(alloc, &self, &ends)? {
             return Ok(self);
         }
+        self.with_note(alloc, ends)
+    }
+
+    /// The same bounds, noted to be tight over ends over which they are. Where there are few bounds, or it is noted of
+    /// wider ends already, nothing is done. Else it costs one pass over the bounds.
+    pub fn noted_tight(self, alloc: Global, ends: Vec<Ends>) -> Result<Bounds, NoMemory>
+        requires { AreTightOver ends.items self }
+        ensures { IfOk result (λ bounds. bounds ≡ self) }
+    {
+        if self.rows().len() < FEW || self.is_noted(&ends) {
+            return Ok(self);
+        }
+        self.with_note(alloc, ends)
+    }
+
+    /// The same bounds, with a note of ends over which they are tight. Whether they are settled is tested.
+    fn with_note(self, alloc: Global, ends: Vec<Ends>) -> Result<Bounds, NoMemory>
+        requires { AreTightOver ends.items self }
+        ensures { IfOk result (λ bounds. bounds ≡ self) }
+    {
+        let is_settled = are_settled(self.rows(), &ends);
         Ok(Bounds {
             alloc: self.alloc,
             orders: self.orders,
-            tight: Some(Rc::new(alloc, ends)?),
+            note: Some(Rc::new(alloc, Note { ends, is_settled })?),
         })
     }
 

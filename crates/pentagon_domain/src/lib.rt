@@ -13,6 +13,7 @@ mod note;
 mod order;
 mod orders;
 mod search;
+mod settled;
 mod shared;
 mod targets;
 mod tight;

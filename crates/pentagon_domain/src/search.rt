@@ -77,6 +77,23 @@ pub(crate) fn stored(rows: &[BoundRow], s: u32, t: u32) -> Option<i64>
     }
 }
 
+/// The constant of the row of two symbols. It is looked for at a place first; the place after it is guessed next.
+#[tactic(auto, using(crate::proofs::Searches::finds, crate::proofs::Searches::found_stored))]
+pub(crate) fn stored_near(rows: &[BoundRow], s: u32, t: u32, guess: &mut usize) -> Option<i64>
+    requires { AreBounds rows.now }
+    ensures { result ≡ stored rows.now s t }
+{
+    if !is_found(rows, *guess, s, t) {
+        *guess = place_of(rows, s, t);
+    }
+    let place = *guess;
+    if !is_found(rows, place, s, t) {
+        return None;
+    }
+    *guess = place + 1;
+    Some(rows[place].k)
+}
+
 /// The rows that go from a symbol or a later one.
 fn rows_from_on(rows: &[BoundRow], s: u32) -> &[BoundRow]
     requires { IsNonDecreasingBy (λ row. row.s) rows.now }

@@ -1,11 +1,13 @@
 //! Whether bounds are tight over ends.
 
-ghost use Rattle.std.specs.Prelude.{◌≡◌, ◌<◌, length, slice_index_or, None, IfOk, IsTrue};
+ghost use Rattle.std.specs.Prelude.{◌≡◌, ◌<◌, length, get_or, slice_index_or, ℤ, List, Option, None, EachIndex};
+ghost use Rattle.std.specs.Prelude.{IfOk, IsTrue};
 ghost use Rattle.std.specs.List.{AllByRecursion};
-ghost use Rattle.pentagon_domain.specs.Gaps.{AreBelow};
+ghost use Rattle.pentagon_domain.specs.declared.ends.Ends.{Ends};
+ghost use Rattle.pentagon_domain.specs.Gaps.{AreBelow, direct_gap};
 ghost use Rattle.pentagon_domain.specs.Rows.{rows_from};
 ghost use Rattle.pentagon_domain.specs.Tight as rule;
-ghost use Rattle.pentagon_domain.specs.Tight.{AddNothing, AreTightFrom, AreTightOver};
+ghost use Rattle.pentagon_domain.specs.Tight.{AddNothing, AreTightFrom, AreTightOver, AreTold};
 
 use crate::bound_row::BoundRow;
 use crate::bounds::Bounds;
@@ -15,17 +17,7 @@ use crate::search::Guess;
 use domain_api::NoMemory;
 use std::alloc::Global;
 
-/// Returns whether a number is no greater than a constant, if it is known, or than another number.
-fn is_told(sum: i128, known: Option<i64>, far: i128) -> bool
-    ensures { result ≡ rule.is_told sum known far }
-{
-    match known {
-        None => sum <= far,
-        Some(k) => sum <= i128::from(k) || sum <= far,
-    }
-}
-
-/// What a row tells of a symbol, if it is in there.
+/// What a row has of a symbol, if it is in there.
 fn known_at(row: &[Option<i64>], t: u32) -> Option<i64>
     ensures { result ≡ slice_index_or row.now t None }
 {
@@ -44,66 +36,115 @@ fn apart(ends: &[Ends], s: u32, t: u32) -> i128
     i128::from(ends[t as usize].lo) - i128::from(ends[s as usize].hi)
 }
 
-/// Returns whether a bound adds nothing behind one from s, where a row tells what is known from s.
-fn adds_nothing(
+/// The greatest number that is told by a constant, if it is known, and by ends that lie so far apart.
+fn told_by(known: Option<i64>, far: i128) -> i128
+    ensures { result ≡ rule.told_by known far }
+{
+    match known {
+        None => far,
+        Some(k) => far.max(i128::from(k)),
+    }
+}
+
+/// The greatest number that is told of two symbols, by what is known from the first and by ends.
+fn told_at(ends: &[Ends], row: &[Option<i64>], s: u32, t: u32) -> i128
+    requires first { s < length ends.now }
+    requires second { t < length ends.now }
+    ensures { result ≡ rule.told_by (slice_index_or row.now t None) (rule.apart ends.now s t) }
+{
+    told_by(known_at(row, t), apart(ends, s, t))
+}
+
+/// The greatest number that is told of s and of each symbol, by what is known from s and by ends.
+#[tactic(auto, using(crate::proofs::TightTests::told_pushed))]
+fn told_from(
+    alloc: Global,
     ends: &[Ends],
     row: &[Option<i64>],
     s: u32,
-    first: &BoundRow,
-    next: &BoundRow,
-) -> bool
-    requires { s < length ends.now }
-    ensures { IsTrue result → IsTrue (rule.adds_nothing ends.now (λ t. slice_index_or row.now t None) s first.now.k
-        next.now) }
+    count: u32,
+) -> Result<Vec<i128>, NoMemory>
+    requires first { s < length ends.now }
+    requires count { length ends.now ≡ count }
+    ensures told { IfOk result (λ told. AreTold ends.now row.now s told.items) }
+    ensures length { IfOk result (λ told. length told.items ≡ count) }
+{
+    let mut told = Vec::with_capacity(alloc, count as usize)?;
+    for t in 0..count {
+        told.push(told_at(ends, row, s, t))?;
+    }
+    Ok(told)
+}
+
+/// Returns whether a bound with another one before it, which goes from s, goes back to s, or both tell no more than is
+/// told.
+#[tactic(auto, using(crate::proofs::TightTests::told_adds))]
+fn adds_nothing(told: &[i128], s: u32, first: &BoundRow, next: &BoundRow) -> bool
+    ensures { (ends : List Ends) (row : List (Option ℤ)) → AreTold ends row s told.now → IsTrue result →
+        IsTrue (rule.adds_nothing ends (λ t. get_or row t None) s first.now.k next.now) }
 {
     if next.t == s {
         return true;
     }
-    if ends.len() <= next.t as usize {
-        return false;
+    match told.get(next.t as usize) {
+        None => false,
+        Some(most) => sum_of(first.k, next.k) <= *most,
     }
-    is_told(
-        sum_of(first.k, next.k),
-        known_at(row, next.t),
-        apart(ends, s, next.t),
-    )
 }
 
 /// Returns whether none of these bounds adds anything there.
 #[tactic(auto, using(crate::proofs::TightTests::rest))]
-fn add_nothing(
-    ends: &[Ends],
-    row: &[Option<i64>],
-    s: u32,
-    first: &BoundRow,
-    nexts: &[BoundRow],
-) -> bool
-    requires { s < length ends.now }
-    ensures { IsTrue result → AddNothing ends.now (λ t. slice_index_or row.now t None) s first.now.k nexts.now }
+fn add_nothing(told: &[i128], s: u32, first: &BoundRow, nexts: &[BoundRow]) -> bool
+    ensures { (ends : List Ends) (row : List (Option ℤ)) → AreTold ends row s told.now → IsTrue result →
+        AddNothing ends (λ t. get_or row t None) s first.now.k nexts.now }
 {
     for next in nexts {
-        if !adds_nothing(ends, row, s, first, next) {
+        if !adds_nothing(told, s, first, next) {
             return false;
         }
     }
     true
 }
 
-/// Returns whether no bound behind one from s adds anything, where there is room for a row.
-#[tactic(auto, using(crate::proofs::TightTests::rest))]
-fn is_tight_from(bounds: &Bounds, ends: &[Ends], row: &mut [Option<i64>], s: u32) -> bool
-    requires { s < length ends.now }
+/// Returns whether no bound behind one from s adds anything.
+#[tactic(auto, using(crate::proofs::TightTests::rest, crate::proofs::TightTests::nothing_by_row))]
+fn all_add_nothing(
+    bounds: &Bounds,
+    ends: &[Ends],
+    row: &[Option<i64>],
+    told: &[i128],
+    s: u32,
+) -> bool
+    requires told { AreTold ends.now row.now s told.now }
+    requires stored { EachIndex row.now (λ t. slice_index_or row.now t None ≡ direct_gap bounds.now s t) }
     ensures { IsTrue result → AreTightFrom ends.now bounds.now s (rows_from bounds.now s) }
 {
-    bounds.stored_from(s, row);
     let firsts = bounds.rows_from(s);
     let mut guess = Guess { end: 0, count: 0 };
     for first in firsts {
-        if !add_nothing(ends, row, s, first, bounds.rows_near(first.t, &mut guess)) {
+        if !add_nothing(told, s, first, bounds.rows_near(first.t, &mut guess)) {
             return false;
         }
     }
     true
+}
+
+/// The same, where there is room for a row.
+fn is_tight_from(
+    alloc: Global,
+    bounds: &Bounds,
+    ends: &[Ends],
+    row: &mut [Option<i64>],
+    s: u32,
+    count: u32,
+) -> Result<bool, NoMemory>
+    requires first { s < length ends.now }
+    requires count { length ends.now ≡ count }
+    ensures { IfOk result (λ tight. IsTrue tight → AreTightFrom ends.now bounds.now s (rows_from bounds.now s)) }
+{
+    bounds.stored_from(s, row);
+    let told = told_from(alloc, ends, row, s, count)?;
+    Ok(all_add_nothing(bounds, ends, row, &told, s))
 }
 
 /// Returns whether the symbols of a row are below a count.
@@ -138,7 +179,7 @@ pub(crate) fn are_tight(alloc: Global, bounds: &Bounds, ends: &[Ends]) -> Result
     }
     let mut row = vec![in alloc; None; ends.len()]?;
     for s in 0..count {
-        if !is_tight_from(bounds, ends, row.as_mut_slice(), s) {
+        if !is_tight_from(alloc, bounds, ends, row.as_mut_slice(), s, count)? {
             return Ok(false);
         }
     }

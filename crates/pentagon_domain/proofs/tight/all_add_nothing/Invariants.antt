@@ -1,6 +1,6 @@
 use Rattle.std.proofs.Common.{drop}
 use Rattle.pentagon_domain.specs.Tight.{AreTightFrom}
-use Rattle.pentagon_domain.proofs.tight.is_tight_from.Given as goal
+use Rattle.pentagon_domain.proofs.tight.all_add_nothing.Given as goal
 
 -- Where the rest is tight, all are.
 abbrev pub invariant-loop-first : goal.invariant-loop-first
