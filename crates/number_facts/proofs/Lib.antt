@@ -21,3 +21,4 @@ pub mod OperatorLaws
 pub mod ResultLaws
 pub mod ResultForms
 pub mod SpanLists
+pub mod SettledSpans

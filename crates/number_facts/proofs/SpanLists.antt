@@ -16,8 +16,8 @@ use Rattle.number_spans.specs.declared.span.Span.{Span}
 use Rattle.number_facts.specs.Ends.{cut_by_all, lowered_by, met, raised_by, span_at}
 use Rattle.number_facts.specs.Facts.{Facts, range_at}
 use Rattle.number_facts.specs.Sizes.{IsSum}
-use Rattle.number_facts.specs.SpanLists.{AreLeftBy, AreSpans, AreUnderWay, HasSums, HaveSums}
-use Rattle.number_facts.specs.SpanLists.{IsLeftBy, IsLowered, IsRaised, IsSpanOf, IsUnderWay}
+use Rattle.number_facts.specs.SpanLists.{AreLeftBy, AreSpans, AreStored, AreUnderWay, HasSums, HaveSums}
+use Rattle.number_facts.specs.SpanLists.{IsLeftBy, IsLowered, IsRaised, IsSpanOf, IsStored, IsUnderWay}
 use Rattle.number_facts.proofs.Cutting.{lowered_more, raised_more}
 use Rattle.number_facts.proofs.Small.{is_same}
 
@@ -52,11 +52,11 @@ each_set R xs t y d inside own each i =
 
 -- ---- the ends that are stored
 
-pub left_pushed : (facts : Facts) (rest : List BoundRow) (spans : List Span) (s : ℕ) (span : Span) → length spans ≡ s
-    → AreLeftBy facts rest spans → IsLeftBy facts rest s span → AreLeftBy facts rest (spans ++ span ∷ [])
-left_pushed facts rest spans s span many each own = each_pushed (IsLeftBy facts rest) spans s span full many each own
+pub stored_pushed : (facts : Facts) (spans : List Span) (s : ℕ) (span : Span) → length spans ≡ s
+    → AreStored facts spans → IsStored facts s span → AreStored facts (spans ++ span ∷ [])
+stored_pushed facts spans s span many each own = each_pushed (IsStored facts) spans s span full many each own
 
-pub ruleset pushed = (left_pushed)
+pub ruleset pushed = (stored_pushed)
 
 -- ---- one bound
 

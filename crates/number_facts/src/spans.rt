@@ -1,25 +1,25 @@
 //! The numbers that each symbol may be.
 
-ghost use Rattle.std.specs.Prelude.{◌≡◌, ◌+◌, ◌<◌, map, length, EachIndex, IfOk, [], slice_index_or};
+ghost use Rattle.std.specs.Prelude.{◌≡◌, ◌+◌, ◌<◌, map, length, EachIndex, IfOk, IsTrue, [], slice_index_or};
 ghost use Rattle.std.specs.List.{AllByRecursion, range_with_len};
 ghost use Rattle.number_spans.specs.Sizes.{IsLong, IsLongHole};
 ghost use Rattle.number_spans.specs.Spans.{full};
 ghost use Rattle.number_facts.specs.Ends as rule;
 ghost use Rattle.number_facts.specs.Ends.{span_at};
-ghost use Rattle.number_facts.specs.SpanLists.{AreLeftBy, AreSpans, HasSums, HaveSums};
-ghost use Rattle.number_facts.specs.SpanLists.{IsLeftBy, IsLowered, IsRaised, IsSpanOf};
+ghost use Rattle.number_facts.specs.SpanLists.{AreLeftBy, AreSpans, AreStored, HasEnds, HasSums, HaveEnds, HaveSums};
+ghost use Rattle.number_facts.specs.SpanLists.{IsLeftBy, IsLowered, IsRaised, IsSpanOf, IsStored, LeaveEnds};
 
 use crate::ends::met;
 use crate::numbers::Numbers;
 use domain_api::NoMemory;
 use number_spans::Span;
-use pentagon_domain::BoundRow;
+use pentagon_domain::{BoundRow, Ends};
 use std::alloc::Global;
 
 impl Numbers {
     /// The ends that are stored of a symbol.
     fn stored_span(&self, symbol: u32) -> Span
-        ensures { IsLeftBy self.now self.now.bounds symbol result }
+        ensures { IsStored self.now symbol result }
     {
         let ends = self.stored_ends(symbol);
         Span::between(ends.lo, ends.hi)
@@ -28,7 +28,7 @@ impl Numbers {
     /// The ends that are stored of so many symbols.
     #[tactic(auto, using(crate::proofs::SpanLists::pushed))]
     fn stored_spans(&self, alloc: Global, count: u32) -> Result<Vec<Span>, NoMemory>
-        ensures ends { IfOk result (λ spans. AreLeftBy self.now self.now.bounds spans.items) }
+        ensures ends { IfOk result (λ spans. AreStored self.now spans.items) }
         ensures length { IfOk result (λ spans. length spans.items ≡ count) }
     {
         let mut spans = Vec::with_capacity(alloc, count as usize)?;
@@ -104,6 +104,52 @@ impl Numbers {
         }
     }
 
+    /// Returns whether these are the ends that are stored of a symbol.
+    fn has_ends(&self, symbol: u32, ends: Ends) -> bool
+        ensures { IsTrue result → HasEnds self.now symbol ends }
+    {
+        let range = self.range_at(symbol);
+        ends.lo == range.lo() && ends.hi == range.hi()
+    }
+
+    /// Returns whether this is so of each symbol that has a place there.
+    #[tactic(auto, using(crate::proofs::SettledSpans::has_more))]
+    fn have_ends(&self, ends: &[Ends]) -> bool
+        ensures { IsTrue result → HaveEnds self.now ends.now }
+    {
+        let Ok(count) = u32::try_from(ends.len()) else {
+            return false;
+        };
+        for symbol in 0..count {
+            if !self.has_ends(symbol, ends[symbol as usize]) {
+                return false;
+            }
+        }
+        true
+    }
+
+    /// Returns whether bounds are seen to cut none of the ends that are stored: they are noted to be settled over these.
+    fn leave_ends(&self) -> bool
+        ensures { IsTrue result → LeaveEnds self.now }
+    {
+        match self.bounds.settled_over() {
+            None => false,
+            Some(ends) => self.have_ends(ends),
+        }
+    }
+
+    /// Makes the ends that all bounds leave of those that are stored.
+    #[tactic(auto, using(crate::proofs::SettledSpans::left))]
+    fn cut_stored(&self, spans: &mut [Span])
+        requires { AreStored self.now spans.old }
+        ensures ends { AreLeftBy self.now [] spans.new }
+        ensures length { length spans.new ≡ length spans.old }
+    {
+        if !self.leave_ends() {
+            self.cut_all(spans);
+        }
+    }
+
     /// The numbers of a symbol, by the ends that all bounds have cut.
     #[tactic(auto, unfolding(crate::specs::Ends::span_at))]
     fn met_at(&self, ends: Span, symbol: u32) -> Span
@@ -139,20 +185,20 @@ impl Numbers {
 
     /// Makes the numbers of so many symbols of the ends that are stored.
     fn settle_all(&self, spans: &mut [Span], count: u32)
-        requires ends { AreLeftBy self.now self.now.bounds spans.old }
+        requires ends { AreStored self.now spans.old }
         requires length { length spans.old ≡ count }
         ensures value { AreSpans self.now spans.new }
         ensures length { length spans.new ≡ length spans.old }
     {
-        self.cut_all(spans);
+        self.cut_stored(spans);
         self.meet_all(spans, count);
     }
 
     /// The numbers that each symbol may be, by all that is known of it: that of symbol s at place s. Symbol 0 is the
     /// number 0. Where a symbol may be none, the least is above the greatest.
     ///
-    /// Cost: two passes over the symbols and one over the bounds, and memory for the result alone. `NoMemory` also
-    /// where there are 2^32 symbols and more.
+    /// Cost: two passes over the symbols and one over the bounds, which is left out where these are noted to be settled
+    /// over the ranges; memory for the result alone. `NoMemory` also where there are 2^32 symbols and more.
     #[tactic(auto, using(crate::proofs::SpanLists::results))]
     pub fn spans(&self, alloc: Global) -> Result<Vec<Span>, NoMemory>
         ensures value { IfOk result (λ spans.
