@@ -142,3 +142,26 @@ lengths_differ a (x ∷ xs) (r ∷ rs) other =
     and_false false = refl
 
 pub ruleset all = (within_more, within_fails, within_end, lengths_differ)
+
+-- ---- each of a list
+
+each_split : (p : BoundRow → Bool) (rows : List BoundRow) (i : ℕ) (d : BoundRow) → i < length rows
+    → list_all p (drop i rows) ≡ (p (get_or rows i d) && list_all p (drop (i + 1) rows))
+each_split p rows i d inside =
+    let split : drop i rows ≡ get_or rows i d ∷ drop (suc i) rows = drop-cons rows i d inside in
+    rw (add-one, split) refl
+
+pub follows_more : (a : Known) (binding : List Bound) (rows : List BoundRow) (i : ℕ) (d : BoundRow) (whole : Bool) → i < length rows
+    → follows a binding (get_or rows i d) ≡ true → list_all (follows a binding) (drop i rows) ≡ whole
+    → list_all (follows a binding) (drop (i + 1) rows) ≡ whole
+follows_more a binding rows i d whole inside here so_far = rw here at (rw (each_split (follows a binding) rows i d inside) at so_far)
+
+pub follows_fails : (a : Known) (binding : List Bound) (rows : List BoundRow) (i : ℕ) (d : BoundRow) (whole : Bool) → i < length rows
+    → follows a binding (get_or rows i d) ≡ false → list_all (follows a binding) (drop i rows) ≡ whole → false ≡ whole
+follows_fails a binding rows i d whole inside here so_far = rw here at (rw (each_split (follows a binding) rows i d inside) at so_far)
+
+pub follows_end : (a : Known) (binding : List Bound) (rows : List BoundRow) (i : ℕ) (whole : Bool) → length rows ≤ i
+    → list_all (follows a binding) (drop i rows) ≡ whole → true ≡ whole
+follows_end a binding rows i whole past so_far = let none : drop i rows ≡ [] = drop_all i rows past in rw none at so_far
+
+pub ruleset each = (follows_more, follows_fails, follows_end)

@@ -14,3 +14,4 @@ pub mod Prefixes
 pub mod OwnLaws
 pub mod Laws
 pub mod RuleLaws
+pub mod SettledTests

@@ -1,10 +1,13 @@
 -- A state in the names of its own symbols.
 use Rattle.std.specs.Prelude.{◌≡◌, ℕ, zero, suc, ◌+◌, ◌<◌, ℤ, pos, ◌-ℤ◌, Bool, false, ◌&&◌, int_lt, List, get_or, length, slice_get, Option, Some, None}
-use Rattle.interval_domain.specs.Interval.{Interval}
+use Rattle.interval_domain.specs.Interval.{Interval, one}
 use Rattle.pentagon_domain.specs.declared.bound_row.BoundRow.{BoundRow}
+use Rattle.pentagon_domain.specs.declared.ends.Ends.{Ends}
+use Rattle.pentagon_domain.specs.Tight.{no_ends}
 use Rattle.symbolic_values.specs.declared.pairs.Key.{Key}
 use Rattle.symbolic_values.specs.Pairing.{origin}
 use Rattle.merged_numbers.specs.Merging.{is_constant}
+use Rattle.merged_numbers.specs.Settled.{ends_at}
 
 -- A key at a place stands for the symbol behind the place, with nothing added.
 pub record IsOwn (place : ℕ) (u : Key) : Type 0 where
@@ -26,3 +29,8 @@ tells_more _ _ k = false
 -- A bound says more than the ranges of its symbols.
 abbrev pub says_more : List Interval → BoundRow → Bool
 says_more ranges row = tells_more (range_of ranges row.s) (range_of ranges row.t) row.k
+
+-- These are the ends of ranges, behind those of symbol 0.
+pub record AreOf (ends : List Ends) (ranges : List Interval) : Type 0 where
+  pub count : length ends ≡ length ranges + 1
+  pub own : (i : ℕ) → i < length ranges → get_or ends (i + 1) no_ends ≡ ends_at (get_or ranges i (one (pos 0)))

@@ -108,37 +108,44 @@ impl Side<'_> {
 
     /// Returns whether a stored bound tells that the second of two distinct symbols lies so far above the first.
     #[tactic(auto, using(crate::proofs::StoredLaws::stored_reaches))]
-    fn is_stored(&self, s: u32, t: u32, n: i128) -> bool
+    fn is_stored(&self, s: u32, t: u32, n: i128, guess: &mut usize) -> bool
         ensures { IsTrue result → gap_is_at_least (gap (known self.now) s t) n ≡ true }
     {
-        s != t && gap_is_at_least(self.bounds.stored(s, t), n)
+        s != t && gap_is_at_least(self.bounds.stored_near(s, t, guess), n)
     }
 
     /// Returns whether the second symbol is known to lie so far above the first. A stored bound is looked at first.
-    fn lies_above(&self, s: u32, t: u32, n: i128) -> bool
+    fn lies_above(&self, s: u32, t: u32, n: i128, guess: &mut usize) -> bool
         requires { AreMeasured self.now.spans.now }
         ensures { result ≡ gap_is_at_least (gap (known self.now) s t) n }
     {
-        self.is_stored(s, t, n) || gap_is_at_least(self.gap(s, t), n)
+        self.is_stored(s, t, n, guess) || gap_is_at_least(self.gap(s, t), n)
     }
 
-    /// Returns whether a bound follows.
-    fn follows(&self, binding: &[Bound], row: &BoundRow) -> bool
+    /// Returns whether a bound follows. It is guessed where one is stored that tells it.
+    fn follows(&self, binding: &[Bound], row: &BoundRow, guess: &mut usize) -> bool
         requires { AreMeasured self.now.spans.now }
         ensures { result ≡ rule.follows (known self.now) binding.now row.now }
     {
         match (term_at(binding, row.s), term_at(binding, row.t)) {
-            (Some(x), Some(y)) => self.lies_above(x.sym, y.sym, apart(x.k, row.k, y.k)),
+            (Some(x), Some(y)) => { self.lies_above(x.sym, y.sym, apart(x.k, row.k, y.k), guess) }
             _ => false,
         }
     }
 
-    /// Returns whether all bounds follow.
+    /// Returns whether all bounds follow. Stored bounds that tell them are mostly next to each other.
+    #[tactic(auto, using(crate::proofs::InclusionLaws::each))]
     fn all_follow(&self, binding: &[Bound], rows: &[BoundRow]) -> bool
         requires { AreMeasured self.now.spans.now }
         ensures { result ≡ list_all (rule.follows (known self.now) binding.now) rows.now }
     {
-        rows.iter().all(|row| self.follows(binding, row))
+        let mut guess = 0;
+        for row in rows {
+            if !self.follows(binding, row, &mut guess) {
+                return false;
+            }
+        }
+        true
     }
 }
 
@@ -154,8 +161,9 @@ fn is_included(a: &Side, binding: &[Bound], ranges: &[Range], bounds: &Bounds) -
 /// and what it is bound to stand at place s - 1; where there are not as many of both, the answer is no. Ends count as
 /// numbers, also where a state leaves a value none.
 ///
-/// Cost: a look at each range, and for each bound a search; where that finds no bound that tells it, a search for each
-/// bound that goes from what its first symbol is bound to. Takes no memory.
+/// Cost: a look at each range, and for each bound a look next to the bound that told the one before it, or a search;
+/// where that finds no bound that tells it, a search for each bound that goes from what its first symbol is bound to.
+/// Takes no memory.
 #[tactic(auto, using(crate::proofs::InclusionLaws::included_so))]
 pub fn includes(a: &Side, binding: &[Bound], ranges: &[Range], bounds: &Bounds) -> bool
     requires { AreMeasured a.now.spans.now }

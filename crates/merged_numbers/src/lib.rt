@@ -11,6 +11,7 @@ mod outcome;
 mod own;
 mod ranges;
 mod rule;
+mod settled;
 mod side;
 mod term;
 mod tight;

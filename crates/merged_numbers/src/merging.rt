@@ -1,13 +1,16 @@
 //! Two states as one.
 
-ghost use Rattle.std.specs.Prelude.{◌≡◌, ◌<◌, [], length, get_or, None, option_map, true, false, IfOk, IfSome, OnOk};
+ghost use Rattle.std.specs.Prelude.{◌≡◌, ◌<◌, [], length, get_or, None, option_map, true, false};
+ghost use Rattle.std.specs.Prelude.{IfOk, IfSome, IsTrue, OnOk};
 ghost use Rattle.pentagon_domain.specs.Rows.{rows_from};
+ghost use Rattle.pentagon_domain.specs.Tight.{AreTightOver};
 ghost use Rattle.symbolic_values.specs.Pairing.{origin};
 ghost use Rattle.merged_numbers.specs.Known.{known};
 ghost use Rattle.merged_numbers.specs.Meaning.{AreMeasured, HaveForm, Keeps};
 ghost use Rattle.merged_numbers.specs.Merging as rule;
 ghost use Rattle.merged_numbers.specs.Merging.{merged_gap, merged_span, ranges_of, row_of, rows_of};
 ghost use Rattle.merged_numbers.specs.Rows.{IsRow};
+ghost use Rattle.merged_numbers.specs.Settled.{AreNamed, AreNamedToo, IsSettledSide, ends_of};
 ghost use Rattle.merged_numbers.specs.Spans as spans;
 
 use crate::gaps::{add_gap, is_told};
@@ -169,6 +172,37 @@ impl Sides<'_> {
         Ok(())
     }
 
+    /// Returns whether the bounds of each state are noted to be tight and settled over its spans.
+    fn are_settled(&self) -> bool
+        ensures first { IsTrue result → IsSettledSide (known self.now.a) }
+        ensures second { IsTrue result → IsSettledSide (known self.now.b) }
+    {
+        self.a.is_settled() && self.b.is_settled()
+    }
+
+    /// Returns whether the keys are symbols of both.
+    fn are_named(&self) -> bool
+        ensures first { IsTrue result → AreNamed (known self.now.a) self.now.keys.now }
+        ensures second { IsTrue result → AreNamedToo (known self.now.b) self.now.keys.now }
+    {
+        self.a.are_named(self.keys) && self.b.are_named_too(self.keys)
+    }
+
+    /// Returns whether the bounds of both are seen to be tight over the new ranges: those of each state are tight and
+    /// settled over its spans, and the keys are symbols of both. Of widened states it is not known.
+    #[tactic(auto, using(crate::proofs::SettledSides::join_tight))]
+    fn stay_tight(&self, ranges: &[Range]) -> bool
+        requires { length ranges.now ≡ length self.now.keys.now }
+        ensures { IsTrue result → AreTightOver (ends_of ranges.now)
+            (rows_of (merged_gap self.now.rule (known self.now.a) (known self.now.b)) self.now.keys.now ranges.now
+            (length self.now.keys.now) []) }
+    {
+        match self.rule {
+            Rule::Widening => false,
+            Rule::Join => self.are_settled() && self.are_named(),
+        }
+    }
+
     /// Both as one.
     #[tactic(auto, using(crate::proofs::RangeLists::ranges_length))]
     fn merged(&self, alloc: Global) -> Result<Option<Merged>, NoMemory>
@@ -183,7 +217,12 @@ impl Sides<'_> {
         let mut bounds = BoundsBuilder::with_capacity(alloc, self.a.bounds.rows().len())?;
         self.add_rows(alloc, &mut bounds, ranges.as_slice())?;
         let bounds = built(alloc, bounds, self.a.bounds)?;
-        let bounds = noted(alloc, bounds, ranges.as_slice())?;
+        let bounds = noted(
+            alloc,
+            bounds,
+            ranges.as_slice(),
+            self.stay_tight(ranges.as_slice()),
+        )?;
         Ok(Some(Merged { ranges, bounds }))
     }
 }

@@ -3,17 +3,19 @@
 ghost use Rattle.std.specs.Prelude.{◌≡◌, ◌<◌, ◌+ℤ◌, ◌-ℤ◌, [], true, length, get_or, Some, None, option_map};
 ghost use Rattle.std.specs.Prelude.{IfOk, IfSome, IsTrue, OnOk};
 ghost use Rattle.pentagon_domain.specs.Rows.{rows_from};
+ghost use Rattle.pentagon_domain.specs.Tight.{AreTightOver};
 ghost use Rattle.symbolic_values.specs.Pairing.{origin};
 ghost use Rattle.merged_numbers.specs.Known.{known};
 ghost use Rattle.merged_numbers.specs.Meaning.{AreMeasured, HaveForm, Keeps};
 ghost use Rattle.merged_numbers.specs.Rows.{IsRow, IsTight};
+ghost use Rattle.merged_numbers.specs.Settled.{ends_of};
 ghost use Rattle.merged_numbers.specs.Spans as spans;
 ghost use Rattle.merged_numbers.specs.Merging as rule;
 ghost use Rattle.merged_numbers.specs.Merging.{own_gap, own_span};
 
 use crate::gaps::{add_gap, moved};
 use crate::outcome::Merged;
-use crate::own::{all_say_more, are_own};
+use crate::own::{are_own, say_more};
 use crate::ranges::stored;
 use crate::side::Side;
 use crate::term::Term;
@@ -162,7 +164,21 @@ impl Own<'_> {
         if !are_own(self.keys) {
             return false;
         }
-        all_say_more(self.ranges, self.a.bounds.rows())
+        say_more(self.ranges, self.a.bounds)
+    }
+
+    /// Returns whether the bounds are seen to be tight over the new ranges: those of the state are tight and settled
+    /// over its spans, and its keys are symbols of it.
+    #[tactic(auto, using(crate::proofs::SettledSides::norm_tight))]
+    fn stay_tight(&self) -> bool
+        requires { length self.now.ranges.now ≡ length self.now.keys.now }
+        ensures { IsTrue result → AreTightOver (ends_of self.now.ranges.now) (rule.rows_of (own_gap (known self.now.a))
+            self.now.keys.now self.now.ranges.now (length self.now.keys.now) []) }
+    {
+        if !self.a.is_settled() {
+            return false;
+        }
+        self.a.are_named(self.keys)
     }
 
     /// The bounds from each key to each other. Where they stay as they are, their rows are shared.
@@ -178,7 +194,7 @@ impl Own<'_> {
         }
         let mut bounds = BoundsBuilder::with_capacity(alloc, self.a.bounds.rows().len())?;
         self.add_rows(alloc, is_tight, &mut bounds)?;
-        noted(alloc, bounds.build()?, self.ranges)
+        noted(alloc, bounds.build()?, self.ranges, self.stay_tight())
     }
 }
 

@@ -2,13 +2,15 @@
 
 ghost use Rattle.std.specs.Prelude.{◌≡◌, ◌&&◌, int_lt, IsTrue};
 ghost use Rattle.std.specs.List.{list_all};
+ghost use Rattle.pentagon_domain.specs.Rows.{AreBounds};
 ghost use Rattle.merged_numbers.specs.Merging.{is_constant};
 ghost use Rattle.merged_numbers.specs.Own as rule;
-ghost use Rattle.merged_numbers.specs.Own.{AreOwn};
+ghost use Rattle.merged_numbers.specs.Own.{AreOf, AreOwn};
+ghost use Rattle.merged_numbers.specs.Settled.{ends_at};
 
 use crate::gaps::apart;
 use interval_domain::Range;
-use pentagon_domain::BoundRow;
+use pentagon_domain::{BoundRow, Bounds, Ends};
 use symbolic_values::Key;
 
 /// Returns whether each key stands for the symbol behind its place, with nothing added.
@@ -51,8 +53,51 @@ fn says_more(ranges: &[Range], row: &BoundRow) -> bool
 }
 
 /// Returns whether each bound says more than the ranges of its symbols.
-pub(crate) fn all_say_more(ranges: &[Range], rows: &[BoundRow]) -> bool
+fn all_say_more(ranges: &[Range], rows: &[BoundRow]) -> bool
     ensures { result ≡ list_all (rule.says_more ranges.now) rows.now }
 {
     rows.iter().all(|row| says_more(ranges, row))
+}
+
+/// Returns whether these are the ends of symbol 0, or of a range.
+fn is_of(ends: Ends, range: &Range) -> bool
+    ensures { IsTrue result → ends ≡ ends_at range.now }
+{
+    ends.lo == range.lo() && ends.hi == range.hi()
+}
+
+/// Returns whether these are the ends of ranges, behind those of symbol 0.
+#[tactic(auto, using(crate::proofs::SettledTests::own_more))]
+fn are_of(ends: &[Ends], ranges: &[Range]) -> bool
+    ensures { IsTrue result → AreOf ends.now ranges.now }
+{
+    if ends.len() != ranges.len() + 1 {
+        return false;
+    }
+    for place in 0..ranges.len() {
+        if !is_of(ends[place + 1], &ranges[place]) {
+            return false;
+        }
+    }
+    true
+}
+
+/// Returns whether bounds are noted to be settled over ranges, so that each says more than these.
+fn are_settled(ranges: &[Range], bounds: &Bounds) -> bool
+    requires { AreBounds bounds.now }
+    ensures { IsTrue result → IsTrue (list_all (rule.says_more ranges.now) bounds.now) }
+{
+    match bounds.settled_over() {
+        None => false,
+        Some(ends) => are_of(ends, ranges),
+    }
+}
+
+/// Returns whether each bound says more than the ranges of its symbols. Where it is noted, the bounds are not looked at.
+pub(crate) fn say_more(ranges: &[Range], bounds: &Bounds) -> bool
+    ensures value { IsTrue result → IsTrue (list_all (rule.says_more ranges.now) bounds.now) }
+    ensures form { AreBounds bounds.now }
+{
+    let rows = bounds.rows();
+    are_settled(ranges, bounds) || all_say_more(ranges, rows)
 }

@@ -6,7 +6,10 @@ ghost use Rattle.pentagon_domain.specs.Rows.{rows_from};
 ghost use Rattle.merged_numbers.specs.Known.{known};
 ghost use Rattle.merged_numbers.specs.Rows as rule;
 ghost use Rattle.merged_numbers.specs.Rows.{IsRow, IsTight};
+ghost use Rattle.merged_numbers.specs.Settled.{ends_of};
+ghost use Rattle.pentagon_domain.specs.Tight.{AreTightOver};
 
+use crate::settled::ends_at;
 use crate::side::Side;
 use domain_api::{NoMemory, gap_is_at_least};
 use interval_domain::Range;
@@ -163,14 +166,14 @@ impl Side<'_> {
 }
 
 /// The ends of each symbol: 0 of symbol 0, and those of the ranges of the others.
-fn ends_of(alloc: Global, ranges: &[Range]) -> Result<Vec<Ends>, NoMemory> {
+#[tactic(auto, using(crate::proofs::SettledTests::ends))]
+fn ends_of(alloc: Global, ranges: &[Range]) -> Result<Vec<Ends>, NoMemory>
+    ensures { IfOk result (λ ends. ends.items ≡ ends_of ranges.now) }
+{
     let mut ends = Vec::with_capacity(alloc, ranges.len() + 1)?;
     ends.push(Ends { lo: 0, hi: 0 })?;
     for range in ranges {
-        ends.push(Ends {
-            lo: range.lo(),
-            hi: range.hi(),
-        })?;
+        ends.push(ends_at(range))?;
     }
     Ok(ends)
 }
@@ -189,14 +192,24 @@ pub(crate) fn built(
     bounds.build()
 }
 
-/// The same bounds, for which it is noted whether they are tight over ranges. Of few bounds nothing would be noted, and
-/// no ends are made.
-pub(crate) fn noted(alloc: Global, bounds: Bounds, ranges: &[Range]) -> Result<Bounds, NoMemory>
+/// The same bounds, for which it is noted whether they are tight over ranges; it is tested where it is not known. Of few
+/// bounds nothing would be noted, and no ends are made.
+pub(crate) fn noted(
+    alloc: Global,
+    bounds: Bounds,
+    ranges: &[Range],
+    is_tight: bool,
+) -> Result<Bounds, NoMemory>
+    requires { IsTrue is_tight → AreTightOver (ends_of ranges.now) bounds }
     ensures { IfOk result (λ noted. noted ≡ bounds) }
 {
     if bounds.rows().len() < FEW {
         return Ok(bounds);
     }
     let ends = ends_of(alloc, ranges)?;
-    bounds.noted(alloc, ends)
+    if is_tight {
+        bounds.noted_tight(alloc, ends)
+    } else {
+        bounds.noted(alloc, ends)
+    }
 }
