@@ -9,3 +9,5 @@ pub mod Reaches
 pub mod Allowing
 pub mod TightGaps
 pub mod TightTests
+pub mod StoredPairs
+pub mod TightWithin

@@ -1,5 +1,5 @@
 -- Rows that cut no end, and of which each tells more than the ends do.
-use Rattle.std.specs.Prelude.{◌≡◌, negsuc, pos, ◌+ℤ◌, ◌≤ℤ◌, int_lt, true, List, get_or}
+use Rattle.std.specs.Prelude.{◌≡◌, ℕ, ◌<◌, ◌≤◌, length, negsuc, pos, ◌+ℤ◌, ◌≤ℤ◌, int_lt, true, List, get_or}
 use Rattle.std.specs.List.{AllByRecursion}
 use Rattle.pentagon_domain.specs.declared.bound_row.BoundRow.{BoundRow}
 use Rattle.pentagon_domain.specs.declared.ends.Ends.{Ends}
@@ -22,6 +22,16 @@ pub record IsSettled (ends : List Ends) (row : BoundRow) : Type 0 where
 pub record AreSettledOver (ends : List Ends) (rows : List BoundRow) : Type 0 where
   pub narrow : AllByRecursion IsNarrow ends
   pub each : AllByRecursion (IsSettled ends) rows
+
+-- The ends of a symbol are no wider than these.
+pub record IsWithin (wide ends : List Ends) (s : ℕ) : Type 0 where
+  pub low : (get_or wide s no_ends).lo ≤ℤ (get_or ends s no_ends).lo
+  pub high : (get_or ends s no_ends).hi ≤ℤ (get_or wide s no_ends).hi
+
+-- So it is of each symbol that has ends there.
+pub record AreWithin (wide ends : List Ends) : Type 0 where
+  pub count : length wide ≤ length ends
+  pub each : (s : ℕ) → s < length wide → IsWithin wide ends s
 
 -- What is noted of rows is so.
 pub record AreNoted (note : Note) (rows : List BoundRow) : Type 0 where

@@ -272,20 +272,23 @@ impl Bounds {
         }
     }
 
-    /// The same bounds, of which it is noted whether they are tight over ends, that of symbol s at place s. Where that
-    /// is noted of wider ends already, or where there are few bounds, nothing is done. Else it costs a pass over the
-    /// bounds behind each bound, and memory for a gap of each symbol.
+    /// The same bounds, of which it is noted whether they are tight over ends, that of symbol s at place s. Where this
+    /// is noted already, or there are few bounds, nothing is done. Where it is noted of wider ends, it costs one pass
+    /// over the bounds; else a pass over the bounds that go on from each bound, and memory for a row of the symbols.
     pub fn noted(self, alloc: Global, ends: Vec<Ends>) -> Result<Bounds, NoMemory>
         ensures { IfOk result (λ bounds. bounds ≡ self) }
     {
-        if self.rows().len() < FEW || self.is_noted(&ends) || !are_tight(alloc, &self, &ends)? {
+        if self.rows().len() < FEW || self.is_noted(&ends) {
+            return Ok(self);
+        }
+        if !self.stay_tight(&ends) && !are_tight(alloc, &self, &ends)? {
             return Ok(self);
         }
         self.with_note(alloc, ends)
     }
 
-    /// The same bounds, noted to be tight over ends over which they are. Where there are few bounds, or it is noted of
-    /// wider ends already, nothing is done. Else it costs one pass over the bounds.
+    /// The same bounds, noted to be tight over ends over which they are. Where this is noted already, or there are few
+    /// bounds, nothing is done. Else it costs one pass over the bounds.
     pub fn noted_tight(self, alloc: Global, ends: Vec<Ends>) -> Result<Bounds, NoMemory>
         requires { AreTightOver ends.items self }
         ensures { IfOk result (λ bounds. bounds ≡ self) }
@@ -309,8 +312,18 @@ impl Bounds {
         })
     }
 
-    /// Returns whether it is noted that the bounds are tight over ends that are as wide.
+    /// Returns whether it is noted that the bounds are tight over these ends.
     fn is_noted(&self, ends: &[Ends]) -> bool {
+        match self.tight_over() {
+            None => false,
+            Some(noted) => noted == ends,
+        }
+    }
+
+    /// Returns whether the bounds are noted to be tight over ends that are as wide.
+    fn stay_tight(&self, ends: &[Ends]) -> bool
+        ensures { IsTrue result → AreTightOver ends.now self.now }
+    {
         match self.tight_over() {
             None => false,
             Some(wide) => are_within(wide, ends),
