@@ -11,3 +11,4 @@ pub mod TightGaps
 pub mod TightTests
 pub mod StoredPairs
 pub mod TightWithin
+pub mod Triangles

@@ -51,7 +51,7 @@ no_sum rows (first ∷ firsts) t none = rw (none first.t, no_sum rows firsts t n
 -- ---- sums of two
 
 -- Of rows that add nothing, the one that goes to t has a sum that is told.
-told_at : (ends : List Ends) (known : ℕ → Option ℤ) (nexts : List BoundRow) (s t : ℕ) (first k : ℤ) → s ≢ t → AddNothing ends known s first nexts
+pub told_at : (ends : List Ends) (known : ℕ → Option ℤ) (nexts : List BoundRow) (s t : ℕ) (first k : ℤ) → s ≢ t → AddNothing ends known s first nexts
     → constant_to nexts t ≡ Some k → is_told (first +ℤ k) (known t) (apart ends s t) ≡ true
 told_at ends known [] s t first k distinct tight is = absurd cc
 told_at ends known (next ∷ nexts) s t first k distinct tight is =
