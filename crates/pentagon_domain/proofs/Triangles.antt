@@ -1,5 +1,5 @@
 -- Over ends over which bounds are tight and settled no way through a third symbol tells more of two.
-use Rattle.std.proofs.Common.{◌≡◌, ◌≢◌, ◌⊎◌, ℕ, zero, suc, ◌<◌, ◌==◌, ℤ, pos, negsuc, ◌+ℤ◌, ◌-ℤ◌, ◌≤ℤ◌, true, false, int_le, int_lt, List, [], ◌∷◌, length, get_or, Option, Some, None, refl, sym, ap, ◌∙◌, arith, inl, inr}
+use Rattle.std.proofs.Common.{◌≡◌, ◌≢◌, ◌⊎◌, ℕ, zero, suc, ◌<◌, ◌==◌, ℤ, pos, negsuc, ◌+ℤ◌, ◌-ℤ◌, ◌≤ℤ◌, true, false, int_le, int_lt, List, [], ◌∷◌, length, get_or, Option, Some, None, refl, sym, ap, subst, ◌∙◌, arith, inl, inr}
 use Rattle.std.specs.Int.{int_max}
 use Rattle.std.specs.Prelude.{option_and_then, if◌then◌else◌}
 use Rattle.std.specs.List.{AllByRecursion}
@@ -10,7 +10,7 @@ use Rattle.pentagon_domain.specs.declared.bound_row.BoundRow.{BoundRow}
 use Rattle.pentagon_domain.specs.declared.ends.Ends.{Ends}
 use Rattle.pentagon_domain.specs.Rows.{constant_to, rows_from, stored}
 use Rattle.pentagon_domain.specs.Gaps.{cut, gap_with}
-use Rattle.pentagon_domain.specs.Settled.{AreSettledOver, IsNarrow, IsSettled}
+use Rattle.pentagon_domain.specs.Settled.{AreSettledOver, IsNarrow}
 use Rattle.pentagon_domain.specs.Tight.{AddNothing, AreTightFrom, AreTightOver, apart, is_told, no_ends, told_by}
 use Rattle.pentagon_domain.proofs.StoredPairs.{settled_stored}
 use Rattle.pentagon_domain.proofs.TightGaps.{direct_apart, tight_gap_with, told_at}
@@ -166,8 +166,9 @@ triangle ends rows s u t tight settled from middle to =
             | inr other ↦
                 elim (cases_eq s t) [
                   | inl same ↦
-                      let back : Moves (get_or ends u no_ends) (get_or ends s no_ends) (full ends rows u t) =
-                      rw (sym same) at (full_moves ends rows u t settled middle to) in
+                      let back =
+                      subst (λ v. Moves (get_or ends u no_ends) (get_or ends v no_ends) (full ends rows u t)) (sym same)
+                      (full_moves ends rows u t settled middle to) in
                       rw (full_itself ends rows s t same)
                       (round (get_or ends s no_ends) (get_or ends u no_ends) (full ends rows s u) (full ends rows u t) (full_moves ends rows s u settled from middle) back)
                   | inr distinct ↦
