@@ -79,7 +79,7 @@ steps_keep P step zero keeps x so = so
 steps_keep P step (suc n) keeps x so =
     keeps n (steps step n x) (omega arith) (steps_keep P step n (λ i y inside. keeps i y (omega (arith, inside))) x so)
 
-bounds_below : (gap : Key → Key → Option ℤ) (keys : List Key) (rs : List Interval)
+pub bounds_below : (gap : Key → Key → Option ℤ) (keys : List Key) (rs : List Interval)
     → AllByRecursion (AreBelow (length keys + 1)) (rows_of gap keys rs (length keys) [])
 bounds_below gap keys rs =
     steps_keep (AllByRecursion (AreBelow (length keys + 1))) (λ i. row_of gap keys rs i (length keys)) (length keys)

@@ -15,3 +15,6 @@ pub mod OwnLaws
 pub mod Laws
 pub mod RuleLaws
 pub mod SettledTests
+pub mod StoredRows
+pub mod TightRows
+pub mod SettledSides

@@ -1,5 +1,5 @@
 -- Tests whether a side is settled.
-use Rattle.std.proofs.Common.{◌≡◌, ◌≢◌, ℕ, zero, suc, ◌+◌, ◌<◌, ◌≤◌, ◌==◌, ℤ, pos, negsuc, ◌+ℤ◌, ◌-ℤ◌, ◌≤ℤ◌, Bool, true, false, not, ◌&&◌, int_lt, int_le, List, [], ◌∷◌, ◌++◌, length, get_or, map, drop, drop-cons, add-one, slice_get, Some, refl, sym, ap, ◌∙◌, arith, inl, inr}
+use Rattle.std.proofs.Common.{◌≡◌, ◌≢◌, ℕ, zero, suc, ◌+◌, ◌<◌, ◌≤◌, ◌==◌, ℤ, pos, negsuc, ◌+ℤ◌, ◌-ℤ◌, ◌≤ℤ◌, Bool, true, false, not, ◌&&◌, int_lt, List, [], ◌∷◌, ◌++◌, length, get_or, map, drop, drop-cons, add-one, slice_get, Some, refl, sym, ap, ◌∙◌, arith, inl, inr}
 use Rattle.std.specs.List.{AllByRecursion, list_all}
 use Rattle.std.proofs.lemmas.Bool.{and_from, cases_Bool, eqb-false, eqb-true}
 use Rattle.std.proofs.lemmas.Int.{ints}
@@ -13,7 +13,7 @@ use Rattle.pentagon_domain.specs.Rows.{AreBounds, is_pair}
 use Rattle.pentagon_domain.specs.Settled.{AreSettledOver, IsNarrow, IsSettled}
 use Rattle.pentagon_domain.specs.Tight.{AreTightOver, apart, no_ends}
 use Rattle.merged_numbers.specs.Merging.{is_constant}
-use Rattle.merged_numbers.specs.Own.{AreOf, range_of, says_more, tells_more}
+use Rattle.merged_numbers.specs.Own.{AreOf, range_of, says_more}
 use Rattle.merged_numbers.specs.Settled.{are_exact, ends_at, ends_of, is_exact}
 
 -- ---- spans with these ends, one after another

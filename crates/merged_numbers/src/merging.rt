@@ -23,7 +23,7 @@ use crate::tight::{built, noted};
 use domain_api::NoMemory;
 use interval_domain::Range;
 use number_spans::Span;
-use pentagon_domain::BoundsBuilder;
+use pentagon_domain::{Bounds, BoundsBuilder};
 use std::alloc::Global;
 use symbolic_values::Key;
 
@@ -203,6 +203,16 @@ impl Sides<'_> {
         }
     }
 
+    /// Bounds that were put together. Where they are those of one of the states, the rows of these are shared.
+    fn built(&self, alloc: Global, bounds: BoundsBuilder) -> Result<Bounds, NoMemory>
+        ensures { IfOk result (λ made. made ≡ bounds) }
+    {
+        if bounds.is_same(self.b.bounds) {
+            return self.b.bounds.copy(alloc);
+        }
+        built(alloc, bounds, self.a.bounds)
+    }
+
     /// Both as one.
     #[tactic(auto, using(crate::proofs::RangeLists::ranges_length))]
     fn merged(&self, alloc: Global) -> Result<Option<Merged>, NoMemory>
@@ -216,7 +226,7 @@ impl Sides<'_> {
         };
         let mut bounds = BoundsBuilder::with_capacity(alloc, self.a.bounds.rows().len())?;
         self.add_rows(alloc, &mut bounds, ranges.as_slice())?;
-        let bounds = built(alloc, bounds, self.a.bounds)?;
+        let bounds = self.built(alloc, bounds)?;
         let bounds = noted(
             alloc,
             bounds,

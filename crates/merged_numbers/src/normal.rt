@@ -19,7 +19,7 @@ use crate::own::{are_own, say_more};
 use crate::ranges::stored;
 use crate::side::Side;
 use crate::term::Term;
-use crate::tight::noted;
+use crate::tight::{built, noted};
 use domain_api::NoMemory;
 use interval_domain::Range;
 use number_spans::Span;
@@ -169,7 +169,6 @@ impl Own<'_> {
 
     /// Returns whether the bounds are seen to be tight over the new ranges: those of the state are tight and settled
     /// over its spans, and its keys are symbols of it.
-    #[tactic(auto, using(crate::proofs::SettledSides::norm_tight))]
     fn stay_tight(&self) -> bool
         requires { length self.now.ranges.now ≡ length self.now.keys.now }
         ensures { IsTrue result → AreTightOver (ends_of self.now.ranges.now) (rule.rows_of (own_gap (known self.now.a))
@@ -190,11 +189,12 @@ impl Own<'_> {
     {
         let is_tight = self.a.is_tight();
         if is_tight && self.is_kept() {
-            return self.a.bounds.copy(alloc);
+            return noted(alloc, self.a.bounds.copy(alloc)?, self.ranges, false);
         }
         let mut bounds = BoundsBuilder::with_capacity(alloc, self.a.bounds.rows().len())?;
         self.add_rows(alloc, is_tight, &mut bounds)?;
-        noted(alloc, bounds.build()?, self.ranges, self.stay_tight())
+        let bounds = built(alloc, bounds, self.a.bounds)?;
+        noted(alloc, bounds, self.ranges, self.stay_tight())
     }
 }
 
