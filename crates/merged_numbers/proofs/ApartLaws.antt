@@ -226,7 +226,7 @@ pair_by_row a keys rs i j d e known gap before after is first second tells gap_i
 -- ---- two sides
 
 -- Where the first gap says no more than ranges, both as one say no more.
-first_told : (rule : Rule) (apart : ℤ) (i j : ℕ) (a b : Option ℤ) (rows : List BoundRow) → is_told apart a ≡ true → with_gap apart i j (gap_by rule a b) rows ≡ rows
+pub first_told : (rule : Rule) (apart : ℤ) (i j : ℕ) (a b : Option ℤ) (rows : List BoundRow) → is_told apart a ≡ true → with_gap apart i j (gap_by rule a b) rows ≡ rows
 first_told Join apart i j None b rows is = refl
 first_told Join apart i j (Some k) None rows is = refl
 first_told Join apart i j (Some k) (Some l) rows is =

@@ -18,3 +18,4 @@ pub mod SettledTests
 pub mod StoredRows
 pub mod TightRows
 pub mod SettledSides
+pub mod KeptLaws

@@ -1,11 +1,13 @@
 -- A state in the names of its own symbols.
-use Rattle.std.specs.Prelude.{◌≡◌, ℕ, zero, suc, ◌+◌, ◌<◌, ℤ, pos, ◌-ℤ◌, Bool, false, ◌&&◌, int_lt, List, get_or, length, slice_get, Option, Some, None}
+use Rattle.std.specs.Prelude.{◌≡◌, ℕ, zero, suc, ◌+◌, ◌<◌, ℤ, pos, ◌+ℤ◌, ◌-ℤ◌, ◌≤ℤ◌, Bool, false, ◌&&◌, int_lt, List, get_or, length, slice_get, Option, Some, None}
 use Rattle.interval_domain.specs.Interval.{Interval, one}
+use Rattle.number_spans.specs.declared.span.Span.{Span}
 use Rattle.pentagon_domain.specs.declared.bound_row.BoundRow.{BoundRow}
 use Rattle.pentagon_domain.specs.declared.ends.Ends.{Ends}
 use Rattle.pentagon_domain.specs.Tight.{no_ends}
 use Rattle.symbolic_values.specs.declared.pairs.Key.{Key}
 use Rattle.symbolic_values.specs.Pairing.{origin}
+use Rattle.merged_numbers.specs.Known.{Known}
 use Rattle.merged_numbers.specs.Merging.{is_constant}
 use Rattle.merged_numbers.specs.Settled.{ends_at}
 
@@ -34,3 +36,15 @@ says_more ranges row = tells_more (range_of ranges row.s) (range_of ranges row.t
 pub record AreOf (ends : List Ends) (ranges : List Interval) : Type 0 where
   pub count : length ends ≡ length ranges + 1
   pub own : (i : ℕ) → i < length ranges → get_or ends (i + 1) no_ends ≡ ends_at (get_or ranges i (one (pos 0)))
+
+-- On a side the span of a key's symbol is there, and with the constant added it is no narrower than a range.
+pub record IsKept (side : Known) (u : Key) (range : Interval) : Type 0 where
+  pub span : Span
+  pub there : slice_get side.spans u.s ≡ Some span
+  pub low : (span.lo +ℤ u.first) ≤ℤ range.lo
+  pub high : range.hi ≤ℤ (span.hi +ℤ u.first)
+
+-- So it is of each key and of its range.
+abbrev pub AreKept : Known → List Key → List Interval → Type 0
+AreKept side keys ranges =
+    (i : ℕ) → i < length keys → IsKept side (get_or keys i origin) (get_or ranges i (one (pos 0)))

@@ -4,6 +4,7 @@
 
 mod gaps;
 mod inclusion;
+mod kept;
 mod measures;
 mod merging;
 mod normal;

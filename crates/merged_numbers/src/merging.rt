@@ -5,16 +5,18 @@ ghost use Rattle.std.specs.Prelude.{IfOk, IfSome, IsTrue, OnOk};
 ghost use Rattle.pentagon_domain.specs.Rows.{rows_from};
 ghost use Rattle.pentagon_domain.specs.Tight.{AreTightOver};
 ghost use Rattle.symbolic_values.specs.Pairing.{origin};
-ghost use Rattle.merged_numbers.specs.Known.{known};
+ghost use Rattle.merged_numbers.specs.Known.{known, term_gap, term_of};
 ghost use Rattle.merged_numbers.specs.Meaning.{AreMeasured, HaveForm, Keeps};
 ghost use Rattle.merged_numbers.specs.Merging as rule;
 ghost use Rattle.merged_numbers.specs.Merging.{merged_gap, merged_span, ranges_of, row_of, rows_of};
+ghost use Rattle.merged_numbers.specs.Own.{AreKept, AreOwn};
 ghost use Rattle.merged_numbers.specs.Rows.{IsRow};
 ghost use Rattle.merged_numbers.specs.Settled.{AreNamed, AreNamedToo, IsSettledSide, ends_of};
 ghost use Rattle.merged_numbers.specs.Spans as spans;
 
 use crate::gaps::{add_gap, is_told};
 use crate::outcome::Merged;
+use crate::own::are_own;
 use crate::ranges::stored;
 use crate::rule::Rule;
 use crate::side::Side;
@@ -76,6 +78,33 @@ impl Sides<'_> {
         Ok(Some(ranges))
     }
 
+    /// Returns whether the first side is seen to know no more of the keys at two places than the new ranges, which are
+    /// its own: nothing is written of their symbols.
+    #[tactic(auto, using(crate::proofs::KeptLaws::kept_pair))]
+    fn is_left_out(
+        &self,
+        ranges: &[Range],
+        is_kept: bool,
+        first: Option<&[Option<i64>]>,
+        i: usize,
+        j: usize,
+    ) -> bool
+        requires kept { IsTrue is_kept → AreKept (known self.now.a) self.now.keys.now ranges.now }
+        requires first { IfSome first (λ r. IsRow r.now (known self.now.a) (get_or self.now.keys.now i origin).s) }
+        requires bare { first ≡ None → rows_from self.now.a.bounds.now (get_or self.now.keys.now i origin).s ≡ [] }
+        requires from { i < length self.now.keys.now }
+        requires to { j < length self.now.keys.now }
+        ensures { IsTrue result → IsTrue (rule.is_told (rule.told ranges.now i j) (term_gap (known self.now.a)
+            (term_of true (get_or self.now.keys.now i origin)) (term_of true (get_or self.now.keys.now j origin)))) }
+    {
+        if !is_kept {
+            return false;
+        }
+        self.a
+            .known_by_row(first, self.keys[i].s, self.keys[j].s)
+            .is_none()
+    }
+
     /// Adds the bound of the keys at two places, by the rows of the first. Where the first side knows no more than the
     /// new ranges tell, both know no more.
     #[tactic(auto, using(crate::proofs::ApartLaws::pair_told))]
@@ -83,11 +112,13 @@ impl Sides<'_> {
         &self,
         bounds: &mut BoundsBuilder,
         ranges: &[Range],
+        is_kept: bool,
         first: Option<&[Option<i64>]>,
         second: Option<&[Option<i64>]>,
         i: usize,
         j: usize,
     ) -> Result<(), NoMemory>
+        requires kept { IsTrue is_kept → AreKept (known self.now.a) self.now.keys.now ranges.now }
         requires one { AreMeasured self.now.a.spans.now }
         requires other { AreMeasured self.now.b.spans.now }
         requires first { IfSome first (λ r. IsRow r.now (known self.now.a) (get_or self.now.keys.now i origin).s) }
@@ -102,6 +133,9 @@ impl Sides<'_> {
             (get_or self.now.keys.now j origin)) bounds.old) }
     {
         if i == j {
+            return Ok(());
+        }
+        if self.is_left_out(ranges, is_kept, first, i, j) {
             return Ok(());
         }
         let from = &self.keys[i];
@@ -124,10 +158,12 @@ impl Sides<'_> {
         &self,
         bounds: &mut BoundsBuilder,
         ranges: &[Range],
+        is_kept: bool,
         first: Option<&[Option<i64>]>,
         second: Option<&[Option<i64>]>,
         i: usize,
     ) -> Result<(), NoMemory>
+        requires kept { IsTrue is_kept → AreKept (known self.now.a) self.now.keys.now ranges.now }
         requires one { AreMeasured self.now.a.spans.now }
         requires other { AreMeasured self.now.b.spans.now }
         requires first { IfSome first (λ r. IsRow r.now (known self.now.a) (get_or self.now.keys.now i origin).s) }
@@ -140,9 +176,19 @@ impl Sides<'_> {
             self.now.keys.now ranges.now i (length self.now.keys.now) bounds.old) }
     {
         for j in 0..self.keys.len() {
-            self.add_pair(bounds, ranges, first, second, i, j)?;
+            self.add_pair(bounds, ranges, is_kept, first, second, i, j)?;
         }
         Ok(())
+    }
+
+    /// Returns whether of a symbol from which no bound of the first side goes nothing is to be stored: the new ranges
+    /// are those of this side, and the keys are its own symbols.
+    fn is_plain(&self, ranges: &[Range], is_kept: bool) -> bool
+        requires { IsTrue is_kept → AreKept (known self.now.a) self.now.keys.now ranges.now }
+        ensures kept { IsTrue result → AreKept (known self.now.a) self.now.keys.now ranges.now }
+        ensures own { IsTrue result → AreOwn self.now.keys.now }
+    {
+        is_kept && are_own(self.keys)
     }
 
     /// Adds the bounds from each key to each other.
@@ -163,11 +209,16 @@ impl Sides<'_> {
         let mut second = vec![in alloc; None; self.b.spans.len()]?;
         let is_first = self.a.is_tight();
         let is_second = self.b.is_tight();
+        let is_kept = self.a.are_kept(self.keys, ranges);
+        let is_plain = self.is_plain(ranges, is_kept);
         for i in 0..self.keys.len() {
             let key = &self.keys[i];
             let left = self.a.row_from(is_first, key.s, first.as_mut_slice());
+            if is_plain && left.is_none() {
+                continue;
+            }
             let right = self.b.row_from(is_second, key.t, second.as_mut_slice());
-            self.add_row(bounds, ranges, left, right, i)?;
+            self.add_row(bounds, ranges, is_kept, left, right, i)?;
         }
         Ok(())
     }
