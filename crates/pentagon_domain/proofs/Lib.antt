@@ -1,7 +1,8 @@
 pub mod Searches
 pub mod Puts
 pub mod Known
-pub mod TargetLists
+pub mod Additions
+pub mod ReachedSymbols
 pub mod Neighbours
 pub mod Cuts
 pub mod IdleSums

@@ -1,6 +1,5 @@
 pub mod Rows
 pub mod Rising
-pub mod Targets
 pub mod Gaps
 pub mod Reach
 pub mod Most

@@ -46,7 +46,6 @@ impl RelationRules {
         Some(match keyword {
             "rows" => bound_rules::rows(alloc, bounds, argument),
             "rows-from" => bound_rules::rows_from(alloc, bounds, argument),
-            "rows-to" => bound_rules::rows_to(alloc, bounds, argument),
             "stored" => bound_rules::stored(alloc, bounds, argument),
             "same-bounds" => bound_rules::same(alloc, bounds, argument),
             "made" => bound_rules::made(alloc, argument),
