@@ -11,5 +11,5 @@ pub returns : goal.returns
 returns c = λ t inside distinct reached.
     let targets = c.targets-targets.result.now in
     let low : AreLow c.loop-t.low c.args.gaps.now c.args.s targets =
-        low_all c.args.gaps.now targets c.loop-t.t-index c.args.s c.loop-t.low c.loop-t-test.false c.loop-t.invariant in
+    low_all c.args.gaps.now targets c.loop-t.t-index c.args.s c.loop-t.low c.loop-t-test.false c.loop-t.invariant in
     low_among c.loop-t.low c.args.gaps.now c.args.s t targets low (reached_among targets c.args.bounds.now t c.targets-targets.ensures reached) distinct inside
