@@ -2,9 +2,10 @@
 
 use crate::words::{append_found, number_text};
 use domain_api::{Expr, Order};
-use pentagon_domain::{BoundRow, Bounds, raised_gap};
+use pentagon_domain::{BoundRow, Bounds, Ends, raised_gap};
 use rule_text::{
-    Failure, append_number, asked, check, check_yes, expr, separate, symbol, three_words, two_words,
+    Failure, append_number, asked, check, check_yes, expr, range, separate, symbol, three_words,
+    two_words,
 };
 use std::alloc::{AllocError, Global};
 
@@ -103,6 +104,48 @@ pub fn stored(alloc: Global, bounds: &Bounds, argument: &str) -> Result<(), Fail
         number_text(alloc, bounds.stored(symbol(s)?, symbol(t)?))?,
         told,
     )
+}
+
+/// `stored-near s1 s2 s3 = 3 none`: the constants of the bounds from a symbol to others, each looked for next to the last.
+pub fn stored_near(alloc: Global, bounds: &Bounds, argument: &str) -> Result<(), Failure> {
+    let (question, told) = asked(argument)?;
+    let (s, others) = question.split_once(' ').ok_or(Failure::Unread("symbols"))?;
+    let s = symbol(s)?;
+    let (mut guess, mut text) = (0, String::new(alloc));
+    for (index, word) in others.split(' ').enumerate() {
+        separate(&mut text, index, " ")?;
+        append_found(&mut text, bounds.stored_near(s, symbol(word)?, &mut guess))?;
+    }
+    check(text, told)
+}
+
+/// The ends of a text, each behind a `,`: `0..0, 1..9`. That of symbol s is at place s.
+fn ends_of(alloc: Global, text: &str) -> Result<Vec<Ends>, Failure> {
+    let mut ends = Vec::new(alloc);
+    for word in text.split(',') {
+        let range = range(word.trim()).ok_or(Failure::Unread("ends"))?;
+        ends.push(Ends {
+            lo: range.lo(),
+            hi: range.hi(),
+        })?;
+    }
+    Ok(ends)
+}
+
+/// `noted 0..0, 1..9, 2..9 = settled`: what is noted of the bounds over these ends: `no`, `tight`, or `settled` too.
+/// Behind ` then ` come other ends, for which it is noted next.
+pub fn noted(alloc: Global, bounds: &Bounds, argument: &str) -> Result<(), Failure> {
+    let (question, told) = asked(argument)?;
+    let mut noted = bounds.copy(alloc)?;
+    for text in question.split(" then ") {
+        noted = noted.noted(alloc, ends_of(alloc, text)?)?;
+    }
+    let word = match (noted.tight_over(), noted.settled_over()) {
+        (_, Some(_)) => "settled",
+        (Some(_), None) => "tight",
+        (None, None) => "no",
+    };
+    check(String::from_str(alloc, word)?, told)
 }
 
 /// `gap s1 s2 = 3`: how far the second symbol is known to lie above the first.

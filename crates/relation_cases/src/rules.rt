@@ -47,6 +47,8 @@ impl RelationRules {
             "rows" => bound_rules::rows(alloc, bounds, argument),
             "rows-from" => bound_rules::rows_from(alloc, bounds, argument),
             "stored" => bound_rules::stored(alloc, bounds, argument),
+            "stored-near" => bound_rules::stored_near(alloc, bounds, argument),
+            "noted" => bound_rules::noted(alloc, bounds, argument),
             "same-bounds" => bound_rules::same(alloc, bounds, argument),
             "made" => bound_rules::made(alloc, argument),
             "gap" => bound_rules::gap(alloc, bounds, argument),
