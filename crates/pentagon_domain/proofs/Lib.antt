@@ -1,8 +1,7 @@
 pub mod Searches
 pub mod Puts
 pub mod Known
-pub mod Additions
-pub mod ReachedSymbols
+pub mod TargetLists
 pub mod Neighbours
 pub mod Cuts
 pub mod IdleSums

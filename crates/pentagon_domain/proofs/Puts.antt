@@ -5,7 +5,8 @@ use Rattle.std.specs.List.{AllByRecursion}
 use Rattle.std.proofs.lemmas.Bool.{cases_Bool}
 use Rattle.std.proofs.lemmas.Bool.Decides.{nat_tests}
 use Rattle.pentagon_domain.specs.declared.bound_row.BoundRow.{BoundRow}
-use Rattle.pentagon_domain.specs.Rows.{is_pair, is_before, is_of, is_found, StandsBefore, AreBounds, place_of, put, put_at}
+use Rattle.pentagon_domain.specs.Rows.{is_pair, is_before, is_of, is_found, StandsBefore, AreBounds, place_of, put}
+use Rattle.pentagon_domain.specs.Targets.{put_at}
 use Rattle.pentagon_domain.proofs.Searches.{before_trans}
 
 -- The bound of two symbols.

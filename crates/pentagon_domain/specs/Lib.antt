@@ -1,5 +1,6 @@
 pub mod Rows
 pub mod Rising
+pub mod Targets
 pub mod Gaps
 pub mod Reach
 pub mod Most

@@ -1,5 +1,5 @@
 -- How great constants are at most, and which sums can be no greater than a gap.
-use Rattle.std.specs.Prelude.{◌≢◌, ◌<◌, ◌||◌, [], ◌∷◌, get_or, ◌≡◌, ℤ, ◌+ℤ◌, ◌≤ℤ◌, int_le, ℕ, ◌==◌, Bool, true, false, not, length, List, Option, Some, None}
+use Rattle.std.specs.Prelude.{◌≡◌, ℤ, ◌+ℤ◌, ◌≤ℤ◌, int_le, ℕ, ◌==◌, Bool, true, false, not, length, List, Option, Some, None}
 use Rattle.std.specs.List.{AllByRecursion}
 use Rattle.domain_api.specs.Order.{greater_gap}
 use Rattle.pentagon_domain.specs.declared.bound_row.BoundRow.{BoundRow}
@@ -24,16 +24,3 @@ is_idle k most (Some low) = int_le (k +ℤ most) low
 -- A bound goes to the symbol.
 abbrev pub is_reached : List BoundRow → ℕ → Bool
 is_reached rows t = not (length (rows_to rows t) == 0)
-
--- The symbol is one of these.
-abbrev pub is_among : List ℕ → ℕ → Bool
-is_among [] t = false
-is_among (u ∷ us) t = u == t || is_among us t
-
--- The symbols to which bounds go are among these.
-abbrev pub AreAmong : List ℕ → List BoundRow → Type 0
-AreAmong symbols rows = AllByRecursion (λ row. is_among symbols row.t ≡ true) rows
-
--- The lowest gap is not above those to any of these symbols, but for s.
-abbrev pub AreLow : Option ℤ → List (Option ℤ) → ℕ → List ℕ → Type 0
-AreLow low gaps s symbols = AllByRecursion (λ t. t ≢ s → t < length gaps → IsLow low (get_or gaps t None)) symbols

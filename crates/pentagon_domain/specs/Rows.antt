@@ -58,13 +58,6 @@ is_found [] place s t = false
 is_found (row ∷ rows) zero s t = is_of row s t
 is_found (row ∷ rows) (suc place) s t = is_found rows place s t
 
--- A row at a place: where one of the same symbols stands there, that keeps the greater constant.
-abbrev pub put_at : List BoundRow → ℕ → BoundRow → List BoundRow
-put_at [] place new = new ∷ []
-put_at (row ∷ rows) zero new =
-    if is_of row new.s new.t then record row { k = int_max row.k new.k } ∷ rows else (new ∷ row ∷ rows)
-put_at (row ∷ rows) (suc place) new = row ∷ put_at rows place new
-
 -- The rows with the bound s + k <= t, where those of later symbols begin.
 abbrev pub put_first : List BoundRow → ℕ → ℕ → ℤ → List BoundRow
 put_first [] s t k = record { s = s; t = t; k = k } ∷ []

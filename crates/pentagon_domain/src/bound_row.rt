@@ -15,6 +15,7 @@ pub struct BoundRow {
 
 impl BoundRow {
     ghost use Rattle.pentagon_domain.specs.Rows.{is_pair, is_before, is_of};
+    ghost use Rattle.pentagon_domain.specs.Targets.{turned};
 
     /// Returns whether it is of two symbols of which a bound is stored: distinct ones, and none is 0.
     pub(crate) fn is_pair(&self) -> bool
@@ -28,6 +29,13 @@ impl BoundRow {
         ensures { result ≡ is_before self.now s t }
     {
         self.s < s || self.s == s && self.t < t
+    }
+
+    /// Returns whether the row stands before any of these two symbols where the second symbol counts first.
+    pub(crate) fn is_before_to(&self, s: u32, t: u32) -> bool
+        ensures { result ≡ is_before (turned self.now) t s }
+    {
+        self.t < t || self.t == t && self.s < s
     }
 
     /// Returns whether it is the row of these two symbols.

@@ -6,10 +6,10 @@ use crate::bound_row::BoundRow;
 use crate::ends::{Ends, are_within};
 use crate::forms::{are_bounds, are_same};
 use crate::note::Note;
+use crate::orders::Orders;
 use crate::search::{stored, stored_near};
 use crate::settled::are_settled;
 use crate::shared::change;
-use crate::store::Store;
 use crate::tight::are_tight;
 use domain_api::NoMemory;
 use std::alloc::Global;
@@ -27,7 +27,7 @@ const FEW: usize = 24;
 pub struct Bounds {
     alloc: Global,
     /// None where no room was taken yet.
-    store: Option<Rc<Store>>,
+    orders: Option<Rc<Orders>>,
     /// What is noted of the rows, where it was tested.
     note: Option<Rc<Note>>,
 }
@@ -40,16 +40,16 @@ impl Model for Bounds {
 
     ghost Value = { List BoundRow };
 
-    ghost view = { λ bounds. rows_in (option_map (λ store. store.value) bounds.store) };
+    ghost view = { λ bounds. rows_in (option_map (λ orders. orders.value) bounds.orders) };
 
     ghost invariant = { λ bounds. IfSome bounds.note (λ note.
-        AreNoted note.value (rows_in (option_map (λ store. store.value) bounds.store))) };
+        AreNoted note.value (rows_in (option_map (λ orders. orders.value) bounds.orders))) };
 }
 
 impl Bounds {
-    ghost use Rattle.pentagon_domain.specs.Rows.{AreBounds, rows_in, rows_from, stored, with_bound, with_bounds};
+    ghost use Rattle.pentagon_domain.specs.Rows.{AreBounds, rows_in, rows_from, rows_to, stored, with_bound, with_bounds};
     ghost use Rattle.pentagon_domain.specs.Gaps.{Allows, LiesAbove};
-    ghost use Rattle.pentagon_domain.specs.Most.{AreAmong, AreUpTo};
+    ghost use Rattle.pentagon_domain.specs.Most.{AreUpTo};
     ghost use Rattle.pentagon_domain.specs.Settled.{AreNoted, AreSettledOver};
     ghost use Rattle.pentagon_domain.specs.Tight.{AreTightOver};
 
@@ -59,18 +59,18 @@ impl Bounds {
     {
         Bounds {
             alloc,
-            store: None,
+            orders: None,
             note: None,
         }
     }
 
     /// Bounds with these rows.
-    fn of(alloc: Global, store: Store) -> Result<Bounds, NoMemory>
-        ensures { IfOk result (λ bounds. bounds ≡ store) }
+    fn of(alloc: Global, orders: Orders) -> Result<Bounds, NoMemory>
+        ensures { IfOk result (λ bounds. bounds ≡ orders) }
     {
         Ok(Bounds {
             alloc,
-            store: Some(Rc::new(alloc, store)?),
+            orders: Some(Rc::new(alloc, orders)?),
             note: None,
         })
     }
@@ -79,7 +79,7 @@ impl Bounds {
     pub fn with_capacity(alloc: Global, count: usize) -> Result<Bounds, NoMemory>
         ensures { IfOk result (λ bounds. bounds ≡ []) }
     {
-        Bounds::of(alloc, Store::with_capacity(alloc, count)?)
+        Bounds::of(alloc, Orders::with_capacity(alloc, count)?)
     }
 
     /// The bounds of these rows. None exactly where they are not in order, each pair once, or one is of equal symbols
@@ -91,27 +91,27 @@ impl Bounds {
         if !are_bounds(&rows) {
             return Ok(None);
         }
-        Ok(Some(Bounds::of_sorted(alloc, rows)?))
+        Ok(Some(Bounds::in_both_orders(alloc, rows)?))
     }
 
     /// The bounds of rows in order. Costs a copy, and a sort of that.
-    pub(crate) fn of_sorted(alloc: Global, rows: Vec<BoundRow>) -> Result<Bounds, NoMemory>
+    pub(crate) fn in_both_orders(alloc: Global, rows: Vec<BoundRow>) -> Result<Bounds, NoMemory>
         requires { AreBounds rows.items }
         ensures { IfOk result (λ bounds. bounds ≡ rows.items) }
     {
         if rows.is_empty() {
             return Ok(Bounds::new(alloc));
         }
-        Bounds::of(alloc, Store::of(alloc, rows)?)
+        Bounds::of(alloc, Orders::of(alloc, rows)?)
     }
 
-    /// The rows in both store, where there is room for some.
-    fn store(&self) -> Option<&Store>
-        ensures { self.now ≡ rows_in (option_map (λ store. store.now) result) }
+    /// The rows in both orders, where there is room for some.
+    fn orders(&self) -> Option<&Orders>
+        ensures { self.now ≡ rows_in (option_map (λ orders. orders.now) result) }
     {
-        match &self.store {
+        match &self.orders {
             None => None,
-            Some(store) => Some(store.as_ref()),
+            Some(orders) => Some(orders.as_ref()),
         }
     }
 
@@ -120,19 +120,9 @@ impl Bounds {
         ensures value { AreUpTo result self.now }
         ensures form { AreBounds self.now }
     {
-        match self.store() {
+        match self.orders() {
             None => i64::MIN,
-            Some(store) => store.most(),
-        }
-    }
-
-    /// Symbols among which are all those to which bounds go.
-    pub(crate) fn targets(&self) -> &[u32]
-        ensures { AreAmong result.now self.now }
-    {
-        match self.store() {
-            None => &[],
-            Some(store) => store.targets(),
+            Some(orders) => orders.most(),
         }
     }
 
@@ -141,9 +131,9 @@ impl Bounds {
         ensures value { result.now ≡ self.now }
         ensures form { AreBounds self.now }
     {
-        match self.store() {
+        match self.orders() {
             None => &[],
-            Some(store) => store.rows(),
+            Some(orders) => orders.rows(),
         }
     }
 
@@ -152,9 +142,20 @@ impl Bounds {
         ensures value { result.now ≡ rows_from self.now s }
         ensures form { AreBounds self.now }
     {
-        match self.store() {
+        match self.orders() {
             None => &[],
-            Some(store) => store.rows_from(s),
+            Some(orders) => orders.rows_from(s),
+        }
+    }
+
+    /// The rows that go to a symbol, rising by the first one. They are found by halving; no memory is taken.
+    pub fn rows_to(&self, t: u32) -> &[BoundRow]
+        ensures value { result.now ≡ rows_to self.now t }
+        ensures form { AreBounds self.now }
+    {
+        match self.orders() {
+            None => &[],
+            Some(orders) => orders.rows_to(t),
         }
     }
 
@@ -177,7 +178,7 @@ impl Bounds {
     /// symbols are equal or one is 0, nothing is stored. After an error nothing has changed.
     ///
     /// Its places, by the first symbol and by the second, are found by halving, and a new row moves those behind it in
-    /// both store. Where the rows are shared, they are copied first. A bound that is known already costs one search.
+    /// both orders. Where the rows are shared, they are copied first. A bound that is known already costs one search.
     #[tactic(auto, using(crate::proofs::Allowing::with_bound_allows))]
     pub fn add_bound(&mut self, s: u32, t: u32, k: i64) -> Result<(), NoMemory>
         ensures value { OnOk result (self.new ≡ with_bound self.old s t k) }
@@ -198,7 +199,7 @@ impl Bounds {
             return Ok(());
         }
         self.note = None;
-        change(self.alloc, &mut self.store, bounds)
+        change(self.alloc, &mut self.orders, bounds)
     }
 
     /// Returns whether the bound of a row is stored, or one that tells more, or none is.
@@ -216,7 +217,7 @@ impl Bounds {
     }
 
     /// Returns whether this is so of each of these bounds.
-    #[tactic(auto, using(crate::proofs::Additions::additions))]
+    #[tactic(auto, using(crate::proofs::TargetLists::additions))]
     fn know_all(&self, bounds: &[BoundRow]) -> bool
         ensures { IsTrue result → with_bounds self.now bounds.now ≡ self.now }
     {
@@ -234,7 +235,7 @@ impl Bounds {
     {
         Ok(Bounds {
             alloc,
-            store: self.store.clone()?,
+            orders: self.orders.clone()?,
             note: self.note.clone()?,
         })
     }
@@ -306,7 +307,7 @@ impl Bounds {
         let is_settled = are_settled(self.rows(), &ends);
         Ok(Bounds {
             alloc: self.alloc,
-            store: self.store,
+            orders: self.orders,
             note: Some(Rc::new(alloc, Note { ends, is_settled })?),
         })
     }

@@ -74,6 +74,6 @@ impl BoundsBuilder {
     pub fn build(self) -> Result<Bounds, NoMemory>
         ensures { IfOk result (λ bounds. bounds ≡ self) }
     {
-        Bounds::of_sorted(*self.rows.allocator(), self.rows)
+        Bounds::in_both_orders(*self.rows.allocator(), self.rows)
     }
 }

@@ -53,19 +53,44 @@ fn lesser(low: Option<i64>, gap: i64) -> Option<i64>
     }
 }
 
-/// The lesser of the lowest gap and of that to a symbol, which counts for nothing where that is s.
-fn lower_at(low: Option<i64>, gaps: &[Option<i64>], t: u32, s: u32) -> Option<i64>
+/// The lowest gap, unless a bound goes to a symbol.
+fn unless_reached(bounds: &Bounds, low: Option<i64>, place: usize) -> Option<i64>
     ensures low { (known : Option ℤ) → IsLow low known → IsLow result known }
-    ensures gap { t ≢ s → t < length gaps.now → IsLow result (slice_index_or gaps.now t None) }
+    ensures none { is_reached bounds.now place ≡ true → result ≡ None }
 {
-    if t == s {
+    match u32::try_from(place) {
+        Ok(t) if bounds.rows_to(t).is_empty() => low,
+        _ => None,
+    }
+}
+
+/// The lesser of the lowest gap and of that to a symbol. Where this is not known, no bound may go to the symbol.
+fn lower_by(bounds: &Bounds, low: Option<i64>, gap: Option<i64>, place: usize) -> Option<i64>
+    ensures low { (known : Option ℤ) → IsLow low known → IsLow result known }
+    ensures gap { is_reached bounds.now place ≡ true → IsLow result gap }
+{
+    match gap {
+        None => unless_reached(bounds, low, place),
+        Some(gap) => lesser(low, gap),
+    }
+}
+
+/// The same of the gap at a place, which counts for nothing where that is s.
+fn lower_at(
+    bounds: &Bounds,
+    low: Option<i64>,
+    gaps: &[Option<i64>],
+    place: usize,
+    s: u32,
+) -> Option<i64>
+    requires { place < length gaps.now }
+    ensures low { (known : Option ℤ) → IsLow low known → IsLow result known }
+    ensures gap { place ≢ s → is_reached bounds.now place ≡ true → IsLow result (slice_index_or gaps.now place None) }
+{
+    if place == s as usize || low.is_none() {
         return low;
     }
-    match gaps.get(t as usize) {
-        None => low,
-        Some(None) => None,
-        Some(Some(gap)) => lesser(low, *gap),
-    }
+    lower_by(bounds, low, gaps[place], place)
 }
 
 /// A number that none of the gaps from s is below, but for those to s and to symbols to which no bound goes. None where
@@ -74,10 +99,9 @@ pub(crate) fn lowest(bounds: &Bounds, gaps: &[Option<i64>], s: u32) -> Option<i6
     ensures { EachIndex gaps.now (λ t. t ≢ s → is_reached bounds.now t ≡ true →
         IsLow result (slice_index_or gaps.now t None)) }
 {
-    let targets = bounds.targets();
     let mut low = Some(i64::MAX);
-    for t in targets {
-        low = lower_at(low, gaps, *t, s);
+    for place in 0..gaps.len() {
+        low = lower_at(bounds, low, gaps, place, s);
     }
     low
 }

@@ -11,10 +11,10 @@ mod gaps;
 mod idle;
 mod note;
 mod order;
+mod orders;
 mod search;
 mod settled;
 mod shared;
-mod store;
 mod targets;
 mod tight;
 

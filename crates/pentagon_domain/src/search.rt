@@ -1,9 +1,10 @@
 //! Searches among rows that rise, by halving.
 
-ghost use Rattle.std.specs.Prelude.{◌≡◌, ◌≤◌, true, false, nat_lt, length, filter, nat_le, IsTrue};
+ghost use Rattle.std.specs.Prelude.{◌≡◌, ◌≤◌, true, false, nat_lt, length, map, filter, nat_le, IsTrue};
 ghost use Rattle.std.specs.List.{AllWithin};
 ghost use Rattle.std.specs.List.Sorted.{IsNonDecreasingBy};
-ghost use Rattle.pentagon_domain.specs.Rows.{AreBounds, is_found, place_of, rows_from, stored};
+ghost use Rattle.pentagon_domain.specs.Rows.{AreBounds, is_found, place_of, rows_from, rows_to, stored};
+ghost use Rattle.pentagon_domain.specs.Targets.{turned};
 
 use crate::bound_row::BoundRow;
 
@@ -39,6 +40,15 @@ fn place_among(rows: &[BoundRow], s: u32, t: u32) -> usize
     ensures bound { result ≤ length rows.now }
 {
     rows.partition_point(|row| row.is_before(s, t))
+}
+
+/// The number of rows before those of two symbols, where the rows rise by the second symbol.
+pub(crate) fn place_to(targets: &[BoundRow], s: u32, t: u32) -> usize
+    requires { AreBounds (map turned targets.now) }
+    ensures value { result ≡ place_of (map turned targets.now) t s }
+    ensures bound { result ≤ length targets.now }
+{
+    targets.partition_point(|row| row.is_before_to(s, t))
 }
 
 /// Returns whether the row at this place is that of the two symbols.
@@ -185,4 +195,30 @@ pub(crate) fn rows_near<'a>(rows: &'a [BoundRow], s: u32, guess: &mut Guess) -> 
         count: found.len(),
     };
     found
+}
+
+/// The rows that go to a symbol or a later one.
+fn rows_to_on(targets: &[BoundRow], t: u32) -> &[BoundRow]
+    requires { IsNonDecreasingBy (λ row. row.t) targets.now }
+    ensures { result.now ≡ filter (λ row. nat_le t row.t) targets.now }
+{
+    let start = targets.partition_point(|row| row.t < t);
+    &targets[start..]
+}
+
+/// The rows that go to a symbol or an earlier one.
+fn rows_to_until(targets: &[BoundRow], t: u32) -> &[BoundRow]
+    requires { IsNonDecreasingBy (λ row. row.t) targets.now }
+    ensures { result.now ≡ filter (λ row. nat_le row.t t) targets.now }
+{
+    let end = targets.partition_point(|row| row.t <= t);
+    &targets[..end]
+}
+
+/// The rows that go to a symbol, of rows that rise by the second symbol.
+pub(crate) fn rows_to(targets: &[BoundRow], t: u32) -> &[BoundRow]
+    requires { AreBounds (map turned targets.now) }
+    ensures { result.now ≡ rows_to targets.now t }
+{
+    rows_to_until(rows_to_on(targets, t), t)
 }

@@ -1,43 +1,19 @@
-//! The symbols to which bounds go.
+//! Rows by the symbol to which they go.
 
-ghost use Rattle.std.specs.Prelude.{◌≡◌, ℕ, true, IsTrue, IfOk, OnOk};
-ghost use Rattle.pentagon_domain.specs.Most.{AreAmong, is_among};
+ghost use Rattle.std.specs.Prelude.{IfOk};
+ghost use Rattle.pentagon_domain.specs.Rows.{AreBounds};
+ghost use Rattle.pentagon_domain.specs.Targets.{AreTargets};
 
 use crate::bound_row::BoundRow;
 use domain_api::NoMemory;
 use std::alloc::Global;
 
-/// Puts a symbol among others that rise, unless it is there.
-#[tactic(auto, using(crate::proofs::ReachedSymbols::one_more))]
-fn put(symbols: &mut Vec<u32>, t: u32) -> Result<(), NoMemory>
-    ensures kept { (u : ℕ) → is_among symbols.old.items u ≡ true → is_among symbols.new.items u ≡ true }
-    ensures there { OnOk result (IsTrue (is_among symbols.new.items t)) }
+/// The same rows, rising by the second symbol, then by the first.
+pub(crate) fn by_target(alloc: Global, rows: &[BoundRow]) -> Result<Vec<BoundRow>, NoMemory>
+    requires { AreBounds rows.now }
+    ensures { IfOk result (λ targets. AreTargets targets.items rows.now) }
 {
-    let place = symbols.partition_point(|u| *u < t);
-    if place < symbols.len() && symbols[place] == t {
-        return Ok(());
-    }
-    symbols.insert(place, t)?;
-    Ok(())
-}
-
-/// Puts the symbols to which bounds go among others.
-#[tactic(auto, using(crate::proofs::ReachedSymbols::loops))]
-pub(crate) fn put_all(symbols: &mut Vec<u32>, bounds: &[BoundRow]) -> Result<(), NoMemory>
-    ensures kept { (u : ℕ) → is_among symbols.old.items u ≡ true → is_among symbols.new.items u ≡ true }
-    ensures there { OnOk result (AreAmong symbols.new.items bounds.now) }
-{
-    for bound in bounds {
-        put(symbols, bound.t)?;
-    }
-    Ok(())
-}
-
-/// The symbols to which bounds go, each once. Costs a search among them for each bound.
-pub(crate) fn targets_of(alloc: Global, bounds: &[BoundRow]) -> Result<Vec<u32>, NoMemory>
-    ensures { IfOk result (λ symbols. AreAmong symbols.items bounds.now) }
-{
-    let mut symbols = Vec::new(alloc);
-    put_all(&mut symbols, bounds)?;
-    Ok(symbols)
+    let mut targets = Vec::from_slice(alloc, rows)?;
+    targets.sort_by_key(|row| row.t)?;
+    Ok(targets)
 }

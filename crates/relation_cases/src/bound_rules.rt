@@ -77,6 +77,12 @@ pub fn rows_from(alloc: Global, bounds: &Bounds, argument: &str) -> Result<(), F
     check(rows_text(alloc, bounds.rows_from(symbol(s)?))?, told)
 }
 
+/// `rows-to s2 = s1+3 <= s2`: what is stored to a symbol.
+pub fn rows_to(alloc: Global, bounds: &Bounds, argument: &str) -> Result<(), Failure> {
+    let (t, told) = asked(argument)?;
+    check(rows_text(alloc, bounds.rows_to(symbol(t)?))?, told)
+}
+
 /// `made s1+3 <= s2 = yes`: whether rows in this order are bounds. Where they are, they come again, also of a copy.
 pub fn made(alloc: Global, argument: &str) -> Result<(), Failure> {
     let (question, told) = asked(argument)?;

@@ -46,6 +46,7 @@ impl RelationRules {
         Some(match keyword {
             "rows" => bound_rules::rows(alloc, bounds, argument),
             "rows-from" => bound_rules::rows_from(alloc, bounds, argument),
+            "rows-to" => bound_rules::rows_to(alloc, bounds, argument),
             "stored" => bound_rules::stored(alloc, bounds, argument),
             "stored-near" => bound_rules::stored_near(alloc, bounds, argument),
             "noted" => bound_rules::noted(alloc, bounds, argument),

@@ -1,12 +1,16 @@
-//! Rows of bounds with what is known of all of them.
+//! Rows in both orders.
+//!
+//! Rows are kept in two orders, so that what is known of a symbol costs its own bounds. A join writes one order
+//! (`BoundsBuilder`) and makes the other by a sort.
 
 ghost use Rattle.std.specs.Prelude.{◌≡◌, [], IfOk, OnOk, OnErr};
+ghost use Rattle.std.specs.Vec.{vec_capacity};
 
 use crate::bound_row::BoundRow;
 use crate::changes::add_all;
 use crate::idle::most_of;
-use crate::search::rows_from;
-use crate::targets::{put_all, targets_of};
+use crate::search::{rows_from, rows_to};
+use crate::targets::by_target;
 use domain_api::NoMemory;
 use std::alloc::Global;
 use std::marker::Model;
@@ -14,29 +18,30 @@ use std::marker::Model;
 /// Of so many rows it is worth the copy to give back the room that they do not need.
 const MANY: usize = 24;
 
-/// The rows of bounds, how great their constants are, and where they go. Contracts see them as the rows.
+/// The rows of bounds in both orders. Contracts see them as the rows by the first symbol.
 #[derive(Drop)]
-pub(crate) struct Store {
+pub(crate) struct Orders {
     rows: Vec<BoundRow>,
-    /// Each symbol to which a row goes, and perhaps others. They rise.
-    targets: Vec<u32>,
-    /// No constant of the rows is greater.
+    /// The same rows, rising by the second symbol, then by the first.
+    targets: Vec<BoundRow>,
+    /// No constant of them is greater.
     most: i64,
 }
 
-impl Model for Store {
+impl Model for Orders {
     ghost use Rattle.std.specs.Prelude.{List};
     ghost use Rattle.pentagon_domain.specs.declared.bound_row.BoundRow.{BoundRow};
     ghost use Rattle.pentagon_domain.specs.Rows.{AreBounds};
-    ghost use Rattle.pentagon_domain.specs.Most.{AreAmong, AreUpTo};
+    ghost use Rattle.pentagon_domain.specs.Most.{AreUpTo};
+    ghost use Rattle.pentagon_domain.specs.Targets.{AreTargets};
 
     ghost Value = { List BoundRow };
 
-    ghost view = { λ store. store.rows.items };
+    ghost view = { λ orders. orders.rows.items };
 
-    ghost invariant = { λ store.
-        AreBounds store.rows.items × AreAmong store.targets.items store.rows.items
-        × AreUpTo store.most store.rows.items };
+    ghost invariant = { λ orders.
+        AreBounds orders.rows.items × AreTargets orders.targets.items orders.rows.items
+        × AreUpTo orders.most orders.rows.items };
 }
 
 /// A copy of rows, with room for so many more.
@@ -60,30 +65,30 @@ fn shrunk(rows: Vec<BoundRow>) -> Vec<BoundRow>
     rows
 }
 
-impl Store {
-    ghost use Rattle.pentagon_domain.specs.Rows.{AreBounds, rows_from, with_bounds};
-    ghost use Rattle.pentagon_domain.specs.Most.{AreAmong, AreUpTo};
+impl Orders {
+    ghost use Rattle.pentagon_domain.specs.Rows.{AreBounds, rows_from, rows_to, with_bounds};
+    ghost use Rattle.pentagon_domain.specs.Most.{AreUpTo};
 
     /// No row, and room for so many.
-    pub(crate) fn with_capacity(alloc: Global, count: usize) -> Result<Store, NoMemory>
-        ensures { IfOk result (λ store. store ≡ []) }
+    pub(crate) fn with_capacity(alloc: Global, count: usize) -> Result<Orders, NoMemory>
+        ensures { IfOk result (λ orders. orders ≡ []) }
     {
-        Ok(Store {
+        Ok(Orders {
             rows: Vec::with_capacity(alloc, count)?,
-            targets: Vec::new(alloc),
+            targets: Vec::with_capacity(alloc, count)?,
             most: i64::MIN,
         })
     }
 
-    /// Rows that are in order, with little room for more. Costs a pass, with a search among symbols for each row.
-    pub(crate) fn of(alloc: Global, rows: Vec<BoundRow>) -> Result<Store, NoMemory>
+    /// Rows that are in order, with little room for more. Costs two copies, and a sort of one.
+    pub(crate) fn of(alloc: Global, rows: Vec<BoundRow>) -> Result<Orders, NoMemory>
         requires { AreBounds rows.items }
-        ensures { IfOk result (λ store. store ≡ rows.items) }
+        ensures { IfOk result (λ orders. orders ≡ rows.items) }
     {
         let rows = shrunk(rows);
-        let targets = targets_of(alloc, &rows)?;
+        let targets = by_target(alloc, &rows)?;
         let most = most_of(&rows, i64::MIN);
-        Ok(Store {
+        Ok(Orders {
             rows,
             targets,
             most,
@@ -91,12 +96,12 @@ impl Store {
     }
 
     /// The same rows again, with room for so many more. Costs one pass.
-    pub(crate) fn copy(&self, alloc: Global, more: usize) -> Result<Store, NoMemory>
+    pub(crate) fn copy(&self, alloc: Global, more: usize) -> Result<Orders, NoMemory>
         ensures { IfOk result (λ again. again ≡ self.now) }
     {
-        Ok(Store {
+        Ok(Orders {
             rows: roomy(alloc, &self.rows, more)?,
-            targets: Vec::from_slice(alloc, &self.targets)?,
+            targets: roomy(alloc, &self.targets, more)?,
             most: self.most,
         })
     }
@@ -107,13 +112,6 @@ impl Store {
         ensures form { AreBounds self.now }
     {
         self.most
-    }
-
-    /// Symbols among which are all those to which rows go.
-    pub(crate) fn targets(&self) -> &[u32]
-        ensures { AreAmong result.now self.now }
-    {
-        &self.targets
     }
 
     /// The rows, rising by the first symbol, then by the second.
@@ -132,13 +130,20 @@ impl Store {
         rows_from(&self.rows, s)
     }
 
+    /// The rows that go to a symbol, rising by the first one.
+    pub(crate) fn rows_to(&self, t: u32) -> &[BoundRow]
+        ensures value { result.now ≡ rows_to self.now t }
+        ensures form { AreBounds self.now }
+    {
+        rows_to(&self.targets, t)
+    }
+
     /// Adds bounds one after another, where such bounds are stored, or none: room for all is taken first.
     pub(crate) fn add_all(&mut self, bounds: &[BoundRow]) -> Result<(), NoMemory>
         ensures value { OnOk result (self.new ≡ with_bounds self.old bounds.now) }
         ensures unchanged { OnErr result (self.new ≡ self.old) }
     {
-        put_all(&mut self.targets, bounds)?;
         self.most = most_of(bounds, self.most);
-        add_all(&mut self.rows, bounds)
+        add_all(&mut self.rows, &mut self.targets, bounds)
     }
 }
