@@ -22,3 +22,4 @@ pub mod ResultLaws
 pub mod ResultForms
 pub mod SpanLists
 pub mod SettledSpans
+pub mod LowestEnds

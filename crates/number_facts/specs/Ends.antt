@@ -1,11 +1,11 @@
 -- The numbers that ranges and bounds together leave to symbols and expressions.
-use Rattle.std.specs.Prelude.{ℕ, ℤ, pos, ◌+ℤ◌, ◌-ℤ◌, List, [], ◌∷◌, Option}
+use Rattle.std.specs.Prelude.{ℕ, ℤ, pos, ◌+ℤ◌, ◌-ℤ◌, List, [], ◌∷◌, Option, Some, None}
 use Rattle.std.specs.Prelude.{if◌then◌else◌}
 use Rattle.std.specs.Int.{int_min, int_max}
 use Rattle.domain_api.specs.declared.expr.Expr.{Expr}
 use Rattle.interval_domain.specs.Interval.{inner_hole, is_hole}
 use Rattle.pentagon_domain.specs.declared.bound_row.BoundRow.{BoundRow}
-use Rattle.pentagon_domain.specs.Rows.{rows_from, rows_to}
+use Rattle.pentagon_domain.specs.Rows.{rows_from, rows_to, stored}
 use Rattle.number_spans.specs.Spans.{shifted}
 use Rattle.number_spans.specs.declared.span.Span.{Span}
 use Rattle.number_facts.specs.Facts.{Facts, has, range_at}
@@ -22,6 +22,14 @@ raised_by facts lo row = if has facts row.s then int_max lo ((range_at facts row
 abbrev pub cut_by_all : (ℤ → BoundRow → ℤ) → List BoundRow → ℤ → ℤ
 cut_by_all by [] n = n
 cut_by_all by (row ∷ rows) n = cut_by_all by rows (by n row)
+
+-- An end of t, raised by the bound that goes to it from s, if it is stored.
+abbrev pub raised_by_known : Facts → ℕ → ℕ → ℤ → Option ℤ → ℤ
+raised_by_known facts s t lo None = lo
+raised_by_known facts s t lo (Some k) = raised_by facts lo (record { s = s; t = t; k = k })
+
+abbrev pub raised_from : Facts → ℕ → ℤ → ℕ → ℤ
+raised_from facts t lo s = raised_by_known facts s t lo (stored facts.bounds s t)
 
 -- A hole that meets an end moves that end, and one outside the ends is none.
 unfoldable pub met : ℤ → ℤ → Option ℤ → Span

@@ -1,6 +1,6 @@
 //! The numbers that ranges and bounds together leave to symbols and expressions.
 
-ghost use Rattle.std.specs.Prelude.{◌≡◌, ◌+ℤ◌, ◌-ℤ◌, pos, FitsSigned, [], ◌∷◌, if◌then◌else◌};
+ghost use Rattle.std.specs.Prelude.{◌≡◌, length, ◌+ℤ◌, ◌-ℤ◌, pos, FitsSigned, [], ◌∷◌, if◌then◌else◌};
 ghost use Rattle.std.specs.Int.{w32, int_min, int_max};
 ghost use Rattle.interval_domain.specs.Interval.{inner_hole, is_hole};
 ghost use Rattle.pentagon_domain.specs.Rows.{AreBounds, rows_from, rows_to};
@@ -14,6 +14,9 @@ use crate::numbers::Numbers;
 use domain_api::Expr;
 use number_spans::Span;
 use pentagon_domain::BoundRow;
+
+/// Where there are no more bounds, all are looked at for those of a symbol: searches cost as much.
+const FEW: usize = 48;
 
 /// The ends of a symbol, as some bounds have cut them.
 #[derive(Clone, Copy)]
@@ -161,6 +164,52 @@ impl Numbers {
         }
     }
 
+    /// The upper end of a symbol, cut by all bounds that go from it.
+    #[tactic(auto, using(crate::proofs::Cutting::cuts, crate::proofs::Small::narrow_ends))]
+    fn highest(&self, s: u32) -> i128
+        ensures value { result ≡
+            rule.cut_by_all (rule.lowered_by self.now) (rows_from self.now.bounds s) (range_at self.now s).hi }
+        ensures bound { IsSum result }
+        ensures small { AreNarrow self.now → IsCut result }
+    {
+        let mut hi = wide(self.range_at(s).hi());
+        let rows = self.bounds.rows_from(s);
+        for row in rows {
+            hi = self.lowered_by(hi, row);
+        }
+        hi
+    }
+
+    /// The lower end of a symbol, raised by the bound that goes to it from another one, if it is stored.
+    fn raised_from(&self, lo: i128, s: u32, t: u32) -> i128
+        requires { IsSum lo }
+        ensures value { result ≡ rule.raised_from self.now t lo s }
+        ensures bound { IsSum result }
+        ensures small { AreNarrow self.now → IsCut lo → IsCut result }
+    {
+        match self.bounds.stored(s, t) {
+            None => lo,
+            Some(k) => self.raised_by(lo, &BoundRow { s, t, k }),
+        }
+    }
+
+    /// The lower end of a symbol, raised by all bounds that go to it: one is sought for each symbol.
+    #[tactic(auto, using(crate::proofs::LowestEnds::raises, crate::proofs::Small::narrow_ends))]
+    fn lowest(&self, t: u32, last: u32) -> i128
+        requires last { last ≡ length self.now.ranges }
+        requires form { AreBounds self.now.bounds }
+        ensures value { result ≡
+            rule.cut_by_all (rule.raised_by self.now) (rows_to self.now.bounds t) (range_at self.now t).lo }
+        ensures bound { IsSum result }
+        ensures small { AreNarrow self.now → IsCut result }
+    {
+        let mut lo = wide(self.range_at(t).lo());
+        for s in 0..=last {
+            lo = self.raised_from(lo, s, t);
+        }
+        lo
+    }
+
     /// The lower end of a symbol, raised by a bound where that goes to the symbol.
     fn raised_at(&self, t: u32, lo: i128, row: &BoundRow) -> i128
         requires { IsSum lo }
@@ -235,8 +284,28 @@ impl Numbers {
         ends
     }
 
+    /// The ends of a symbol, cut by all its bounds. Among many these are searched for.
+    fn cut_ends(&self, s: u32) -> CutEnds
+        ensures low { result.lo ≡
+            rule.cut_by_all (rule.raised_by self.now) (rows_to self.now.bounds s) (range_at self.now s).lo }
+        ensures high { result.hi ≡
+            rule.cut_by_all (rule.lowered_by self.now) (rows_from self.now.bounds s) (range_at self.now s).hi }
+        ensures sums { AreSums result }
+        ensures small { AreNarrow self.now → AreCut result }
+    {
+        let rows = self.bounds.rows();
+        match u32::try_from(self.ranges.len()) {
+            Ok(last) if FEW < rows.len() => CutEnds {
+                lo: self.lowest(s, last),
+                hi: self.highest(s),
+            },
+            _ => self.cut_among(s, rows),
+        }
+    }
+
     /// The numbers that are left to a symbol. They are no larger than ends of int32 that bounds cut, where ranges are
-    /// of int32. Symbol 0 has no bounds. Costs a pass over the bounds.
+    /// of int32. Symbol 0 has no bounds. Costs a search for each symbol, or
+    /// a pass over few bounds.
     #[tactic(auto, using(crate::proofs::Small::no_bounds), unfolding(crate::specs::Ends::span_at))]
     pub(crate) fn left_to(&self, s: u32) -> Span
         ensures value { result ≡ rule.span_at self.now s }
@@ -249,7 +318,7 @@ impl Numbers {
         if s == 0 {
             return met(0, 0, None);
         }
-        let ends = self.cut_among(s, rows);
+        let ends = self.cut_ends(s);
         met(ends.lo, ends.hi, self.range_at(s).hole())
     }
 
