@@ -19,3 +19,4 @@ pub mod StoredRows
 pub mod TightRows
 pub mod SettledSides
 pub mod KeptLaws
+pub mod SameSides

@@ -1,5 +1,6 @@
 -- A state in the names of its own symbols.
 use Rattle.std.specs.Prelude.{◌≡◌, ℕ, zero, suc, ◌+◌, ◌<◌, ℤ, pos, ◌+ℤ◌, ◌-ℤ◌, ◌≤ℤ◌, Bool, false, ◌&&◌, int_lt, List, get_or, length, slice_get, Option, Some, None}
+use Rattle.std.specs.List.{AllByRecursion}
 use Rattle.interval_domain.specs.Interval.{Interval, one}
 use Rattle.number_spans.specs.declared.span.Span.{Span}
 use Rattle.pentagon_domain.specs.declared.bound_row.BoundRow.{BoundRow}
@@ -48,3 +49,11 @@ pub record IsKept (side : Known) (u : Key) (range : Interval) : Type 0 where
 abbrev pub AreKept : Known → List Key → List Interval → Type 0
 AreKept side keys ranges =
     (i : ℕ) → i < length keys → IsKept side (get_or keys i origin) (get_or ranges i (one (pos 0)))
+
+-- A key stands for the same on both sides.
+pub record IsAlike (u : Key) : Type 0 where
+  pub symbol : u.t ≡ u.s
+  pub plain : u.shift ≡ pos 0
+
+abbrev pub AreAlike : List Key → Type 0
+AreAlike keys = AllByRecursion IsAlike keys

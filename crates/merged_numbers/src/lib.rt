@@ -12,6 +12,7 @@ mod outcome;
 mod own;
 mod ranges;
 mod rule;
+mod same;
 mod settled;
 mod side;
 mod term;

@@ -15,8 +15,9 @@ ghost use Rattle.merged_numbers.specs.Settled.{AreNamed, AreNamedToo, IsSettledS
 ghost use Rattle.merged_numbers.specs.Spans as spans;
 
 use crate::gaps::{add_gap, is_told};
+use crate::normal::in_own_names;
 use crate::outcome::Merged;
-use crate::own::are_own;
+use crate::own::{are_alike, are_own};
 use crate::ranges::stored;
 use crate::rule::Rule;
 use crate::side::Side;
@@ -264,6 +265,24 @@ impl Sides<'_> {
         built(alloc, bounds, self.a.bounds)
     }
 
+    /// Returns whether both are seen to be one and the same, under the same names: then what they know together is what
+    /// the first knows.
+    #[tactic(auto, using(crate::proofs::SameSides::joined_itself))]
+    fn are_one(&self) -> bool
+        ensures { IsTrue result → rule.normed self.now.keys.now (known self.now.a)
+            ≡ rule.merged self.now.rule self.now.keys.now (known self.now.a) (known self.now.b) }
+    {
+        match self.rule {
+            Rule::Widening => false,
+            Rule::Join => {
+                if !are_alike(self.keys) {
+                    return false;
+                }
+                self.a.is_same(&self.b)
+            }
+        }
+    }
+
     /// Both as one.
     #[tactic(auto, using(crate::proofs::RangeLists::ranges_length))]
     fn merged(&self, alloc: Global) -> Result<Option<Merged>, NoMemory>
@@ -272,6 +291,9 @@ impl Sides<'_> {
         ensures { IfOk result (λ made. made
             ≡ rule.merged self.now.rule self.now.keys.now (known self.now.a) (known self.now.b)) }
     {
+        if self.are_one() {
+            return in_own_names(alloc, self.keys, &self.a);
+        }
         let Some(ranges) = self.ranges(alloc)? else {
             return Ok(None);
         };

@@ -200,7 +200,11 @@ impl Own<'_> {
 
 /// What one state knows, in the names of its own keys.
 #[tactic(auto, using(crate::proofs::RangeLists::ranges_length))]
-fn in_own_names(alloc: Global, keys: &[Key], a: &Side) -> Result<Option<Merged>, NoMemory>
+pub(crate) fn in_own_names(
+    alloc: Global,
+    keys: &[Key],
+    a: &Side,
+) -> Result<Option<Merged>, NoMemory>
     requires { AreMeasured a.now.spans.now }
     ensures { IfOk result (λ made. made ≡ rule.normed keys.now (known a.now)) }
 {

@@ -5,7 +5,7 @@ ghost use Rattle.std.specs.List.{list_all};
 ghost use Rattle.pentagon_domain.specs.Rows.{AreBounds};
 ghost use Rattle.merged_numbers.specs.Merging.{is_constant};
 ghost use Rattle.merged_numbers.specs.Own as rule;
-ghost use Rattle.merged_numbers.specs.Own.{AreOf, AreOwn};
+ghost use Rattle.merged_numbers.specs.Own.{AreAlike, AreOf, AreOwn, IsAlike};
 ghost use Rattle.merged_numbers.specs.Settled.{ends_at};
 
 use crate::gaps::apart;
@@ -19,6 +19,26 @@ pub(crate) fn are_own(keys: &[Key]) -> bool
 {
     for place in 0..keys.len() {
         if keys[place].s as usize != place + 1 || keys[place].first != 0 {
+            return false;
+        }
+    }
+    true
+}
+
+/// Returns whether a key stands for the same on both sides.
+fn is_alike(key: &Key) -> bool
+    ensures { IsTrue result → IsAlike key.now }
+{
+    key.t == key.s && key.shift == 0
+}
+
+/// Returns whether each key stands for the same on both sides.
+#[tactic(auto, using(pentagon_domain::proofs::TightTests::rest))]
+pub(crate) fn are_alike(keys: &[Key]) -> bool
+    ensures { IsTrue result → AreAlike keys.now }
+{
+    for key in keys {
+        if !is_alike(key) {
             return false;
         }
     }
