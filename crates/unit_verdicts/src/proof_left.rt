@@ -15,20 +15,29 @@ use crate::analysis::{find_flow, invariant_in, readable};
 use method_unit::read_unit;
 use proof_files::ProofText;
 use result_cache::Entries;
+use stack_typer::TypedUnit;
 use std::alloc::{AllocError, Global};
 use transfer_rules::has_shape;
 use unit_flow::UnitFlow;
 
-/// The unit of these bytes with its graph and its kinds.
+/// The unit of these bytes.
+fn unit_at(alloc: Global, key: &[u8]) -> Result<TypedUnit, AllocError>
+    ensures value { IfOk result (λ unit. unit ≡ unit_of key.now) }
+    ensures unit { IfOk result (λ unit. IsUnit unit) }
+{
+    match read_unit(alloc, readable(key)?) {
+        Ok(unit) => Ok(unit),
+        // Memory ran out, since the bytes of a unit have no fault.
+        Err(_) => Err(AllocError),
+    }
+}
+
+/// The same with its graph and its kinds.
 fn read_flow(alloc: Global, key: &[u8]) -> Result<UnitFlow, AllocError>
     ensures value { IfOk result (λ code. code ≡ flow_of (unit_of key.now)) }
     ensures unit { IfOk result (λ code. IsUnit code.unit) }
 {
-    match read_unit(alloc, readable(key)?) {
-        Ok(unit) => find_flow(alloc, unit),
-        // Memory ran out, since the bytes of a unit have no fault.
-        Err(_) => Err(AllocError),
-    }
+    find_flow(alloc, unit_at(alloc, key)?)
 }
 
 /// Adds the unit of these bytes with the states that the other bytes spell, where they have its shape.

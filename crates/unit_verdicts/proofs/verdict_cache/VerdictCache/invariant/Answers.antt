@@ -1,6 +1,5 @@
-use Rattle.std.proofs.Common.{◌≡◌, List, sym, ap, subst, ◌∙◌}
+use Rattle.std.proofs.Common.{◌≡◌, List, ap, subst, ◌∙◌}
 use Rattle.std.specs.Prelude.{IfOk}
-use Rattle.invariant_codec.specs.Invariants.{IsInvariant}
 use Rattle.unit_verdicts.specs.CacheFile.{held_or_own}
 use Rattle.unit_verdicts.specs.Picks.{entries_in}
 use Rattle.unit_verdicts.specs.VerdictCache.{CachedUnits, IsHeldFor}

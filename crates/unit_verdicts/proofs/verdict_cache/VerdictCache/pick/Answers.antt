@@ -1,6 +1,5 @@
 use Rattle.std.proofs.Common.{◌≡◌, true, refl, sym, ap, subst, ◌∙◌}
 use Rattle.std.proofs.lemmas.Result.{err_from_is_err_and}
-use Rattle.cil_model.specs.declared.unit.Unit.{Unit as MethodUnit}
 use Rattle.unit_form.specs.Spelling.{unit_bytes}
 use Rattle.result_cache.specs.Entries.{is_among}
 use Rattle.unit_flow.specs.Flow.{IsLawful}

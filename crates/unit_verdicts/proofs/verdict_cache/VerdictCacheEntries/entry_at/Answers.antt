@@ -1,4 +1,4 @@
-use Rattle.std.proofs.Common.{◌≡◌, ℕ, List, Some, slice_get, refl, sym, ap, ap₂, subst, ◌∙◌}
+use Rattle.std.proofs.Common.{◌≡◌, ℕ, List, Some, slice_get, refl, sym, ap₂, subst, ◌∙◌}
 use Rattle.unit_verdicts.specs.CacheFile.{held_or_own}
 use Rattle.unit_verdicts.specs.Picks.{entries_in}
 use Rattle.unit_verdicts.specs.VerdictCache.{CachedUnits, entries_kept, units_in}
